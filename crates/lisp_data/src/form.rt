@@ -10,7 +10,6 @@ use lists::{Bytes, Memory};
 use std::alloc::Global;
 use std::rc::Rc;
 
-
 /// An integer, a symbol, a text, or a list of at least one form, with a form after its point or none.
 #[cycle(form)]
 #[derive(Drop)]

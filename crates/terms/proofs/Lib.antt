@@ -1,0 +1,11 @@
+pub mod Args
+pub mod Keys
+pub mod Places
+pub mod Names
+pub mod Below
+pub mod Models
+pub mod Extend
+pub mod Meaning
+pub mod Basics
+pub mod Totality
+pub mod Growth

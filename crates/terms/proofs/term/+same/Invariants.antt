@@ -1,0 +1,12 @@
+use Rattle.std.proofs.Common.{◌≡◌, ◌+◌, ◌*◌, length, take}
+use Rattle.terms.specs.Terms.{depth, depths, tms}
+use Rattle.terms.proofs.term.+same.Given as goal
+
+abbrev pub decreases-Term::same : goal.decreases-Term::same
+decreases-Term::same l = 2 * depth l.self.now + 1
+
+abbrev pub decreases-same_all : goal.decreases-same_all
+decreases-same_all l = 2 * depths (tms l.xs.now)
+
+abbrev pub invariant-same_all-loop-i : goal.invariant-same_all-loop-i
+invariant-same_all-loop-i l = (length l.xs ≡ length l.ys) × (take l.i l.xs ≡ take l.i l.ys)

@@ -1,0 +1,14 @@
+pub mod Primitives
+pub mod Terms
+pub mod TermView
+pub mod TermFalls
+pub mod Substitution
+pub mod Variables
+pub mod Paths
+pub mod Definitions
+pub mod Evaluation
+pub mod Worlds
+pub mod Measures
+pub mod Formed
+pub mod Sound
+pub mod Laws

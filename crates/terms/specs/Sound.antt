@@ -1,0 +1,63 @@
+-- Sound worlds, and how they grow.
+use Rattle.std.specs.Prelude.{◌≡◌, None, List, [], ◌∷◌, codes}
+use Rattle.lisp_data.specs.Values.{Name}
+use Rattle.terms.specs.Primitives.{primitive}
+use Rattle.terms.specs.Terms.{Tm, Var}
+use Rattle.terms.specs.Measures.{call1, call2, obligations}
+use Rattle.terms.specs.Worlds.{World, Functions, Each, IsIn, Distinct, FitsSequent, Holds, Total, names}
+use Rattle.terms.specs.Formed.{with_def, AllFormed, FitsOver, VarsApart}
+use Rattle.terms.specs.declared.definition.Definition.{Definition}
+use Rattle.terms.specs.declared.sequent.Sequent.{Sequent}
+use Rattle.terms.specs.declared.entries.Specification.{Specification}
+use Rattle.terms.specs.declared.entries.Iso.{Iso}
+
+-- each sequent is well formed in the world, and holds there
+abbrev pub AllHold : Functions → List Sequent → Type 0
+AllHold W ss = Each (λ s. FitsSequent W s × Holds W s) ss
+
+-- the sequent of one hypothesis over the variable X
+abbrev pub over_x : Name → Tm → Sequent
+over_x hyp goal = record { universals = []; hyps = call1 hyp (Var (codes "X")) ∷ []; goal = goal }
+
+-- the two functions map the two predicates into each other, and undo each other
+abbrev pub iso_conditions : Iso → List Sequent
+iso_conditions i =
+    let x = Var (codes "X") in
+    over_x i.oldp (call1 i.newp (call1 i.forth x))
+    ∷ over_x i.newp (call1 i.oldp (call1 i.back x))
+    ∷ over_x i.oldp (call2 (codes "EQUAL") (call1 i.back (call1 i.forth x)) x)
+    ∷ over_x i.newp (call2 (codes "EQUAL") (call1 i.forth (call1 i.back x)) x)
+    ∷ []
+
+-- what is kept of each world
+pub record Sound (W : World) : Type 0 where
+  -- no name is given twice, nor is a primitive's
+  pub distinct : Distinct (names W)
+  pub unlike_primitives : (f : Name) → IsIn (names W) f → primitive f ≡ None
+  -- each definition is well formed over those before it, and each function has a value everywhere
+  pub formed : AllFormed W.functions.vars W.functions.defs
+  pub apart : VarsApart W.functions
+  pub total : Total W.functions
+  -- what measures owe, theorems and the conditions of isomorphisms hold
+  pub obligations : Each (λ d. AllHold W.functions (obligations d)) W.functions.defs
+  pub theorems : Each (λ t. (t.1.hyps ≡ []) × FitsSequent W.functions t.1 × Holds W.functions t.1) W.theorems
+  pub specifications : Each (λ s. FitsOver W.functions s.variables s.matrix) W.specifications
+  pub isos : Each (λ i. AllHold W.functions (iso_conditions i)) W.isos
+
+-- the world of the primitives
+abbrev pub empty_world : World
+empty_world = record {
+  functions = record { defs = []; vars = [] };
+  theorems = [];
+  specifications = [];
+  isos = [];
+  instances = [];
+  links = [];
+  events = [];
+}
+
+abbrev pub add_definition : Definition → World → World
+add_definition d W = record W { functions = with_def W.functions d }
+
+abbrev pub add_theorem : Name → Sequent → World → World
+add_theorem n s W = record W { theorems = (n, s) ∷ W.theorems }

@@ -1,0 +1,21 @@
+//! Terms as shared trees, and the standard model: what terms mean, and which sequents hold in a world.
+#![tactic(auto)]
+
+mod definition;
+mod entries;
+mod laws;
+mod path;
+mod sequent;
+mod subst;
+mod term;
+
+pub use definition::Definition;
+pub use entries::{FunPair, FunPairs, Iso, IsoUse, IsoUses, Link, Specification};
+pub use laws::{
+    definitions_stay_total, flat_definitions_stay_total, later_definitions, substitution,
+    values_stay, worlds_grow,
+};
+pub use path::{Path, at_path, put_at};
+pub use sequent::Sequent;
+pub use subst::{Subst, substitute, variables};
+pub use term::{Node, Term, Terms};
