@@ -1,6 +1,8 @@
 -- What a form is seen as.
 use Rattle.std.specs.Prelude.{◌≡◌, Option, Some, None, ℕ, List, [], ◌∷◌, map, refl}
 use Rattle.std.proofs.Common.{ap, sym, ◌∙◌}
+use Rattle.std.specs.declared.alloc.Global.{Global}
+use Rattle.std.specs.declared.rc.Rc.{Rc}
 use Rattle.lisp_data.specs.Datum.{Datum, IntForm, SymForm, TextForm, PairForm, nil_form, chain}
 use Rattle.lisp_data.specs.declared.form.Forms.{Forms}
 use Rattle.lisp_data.specs.declared.form.Form.{Form, Int, Sym, Text, List', Row_of-Form, end_of-Form, more_of-Form, Held-Form-List-1, None', Some'}
@@ -37,21 +39,21 @@ IsEnd (Sym s) = s ≡ 78 ∷ 73 ∷ 76 ∷ [] → ⊥
 IsEnd (Text s) = Unit {0}
 IsEnd (List' shape row tail) = ⊥
 
--- each list in it has an item, and an end that isn't a list nor NIL
+-- each list in it has an item, and an end that is neither a list nor NIL
 unfoldable mutual
   pub IsProper : Form → Type 0
   IsProper (Int z) = Unit {0}
   IsProper (Sym s) = Unit {0}
   IsProper (Text s) = Unit {0}
-  IsProper (List' shape row tail) = HasItem row × AreProper row × HasEnd tail
+  IsProper (List' shape row tail) = HasItem row × RowIsProper row × HasEnd tail
 
   pub HasItem : {m : _} → Row_of-Form m → Type 0
   HasItem end_of-Form = ⊥
   HasItem (more_of-Form f rest) = Unit {0}
 
-  pub AreProper : {m : _} → Row_of-Form m → Type 0
-  AreProper end_of-Form = Unit {0}
-  AreProper (more_of-Form f rest) = IsProper f × AreProper rest
+  pub RowIsProper : {m : _} → Row_of-Form m → Type 0
+  RowIsProper end_of-Form = Unit {0}
+  RowIsProper (more_of-Form f rest) = IsProper f × RowIsProper rest
 
   pub HasEnd : Held-Form-List-1 → Type 0
   HasEnd None' = Unit {0}
@@ -60,3 +62,16 @@ unfoldable mutual
 abbrev pub AllProper : List Form → Type 0
 AllProper [] = Unit {0}
 AllProper (f ∷ fs) = IsProper f × AllProper fs
+
+-- each form of a list is proper
+abbrev pub AreProper : Forms → Type 0
+AreProper fs = AllProper (items_of fs)
+
+-- the end of a list
+abbrev pub end_of : Option (Rc Form Global) → Datum
+end_of None = nil_form
+end_of (Some t) = form_of t.value
+
+abbrev pub EndIsProper : Option (Rc Form Global) → Type 0
+EndIsProper None = Unit {0}
+EndIsProper (Some t) = IsProper t.value × IsEnd t.value

@@ -1,4 +1,6 @@
 pub mod Codes
+pub mod Atoms
+pub mod AtomView
 pub mod SymbolText
 pub mod Values
 pub mod ValueView

@@ -1,14 +1,21 @@
--- The text of a symbol.
-use Rattle.std.specs.Prelude.{◌≡◌, ◌≤◌, ◌<◌, ℕ, List, length, All, Result, Ok, Err, ◌⊎◌}
+-- Which symbol a text names.
+use Rattle.std.specs.Prelude.{◌≡◌, ℕ, Bool, true, false, List, Result, Ok, Err}
+use Rattle.std.specs.List.{list_all}
+use Rattle.lisp_data.specs.Atoms.{in_atom, leaf, Named}
 use Rattle.lisp_data.specs.declared.symbol.SymbolError.{SymbolError}
 use Rattle.lisp_data.specs.declared.symbol.SymbolError.TheVariants.{BadText, Memory}
 
--- at most 255 bytes, none of which is a small letter
-abbrev pub IsSymbolText : List ℕ → Type 0
-IsSymbolText t = (length t ≤ 255) × All (λ b. (b < 97) ⊎ (122 < b)) t
+-- as an atom of a book, the text is the symbol s
+pub record NamesSymbol (text s : List ℕ) : Type 0 where
+  pub atom : list_all in_atom text ≡ true
+  pub symbol : leaf false text ≡ Named s
 
--- what making a symbol of the text t answers
+-- the text of a symbol names that symbol: so it has at most 255 bytes, and no small letter
+abbrev pub IsSymbolText : List ℕ → Type 0
+IsSymbolText s = NamesSymbol s s
+
+-- what making the symbol of a text answers
 abbrev pub SaysNew : List ℕ → Result (List ℕ) SymbolError → Type 0
-SaysNew t (Ok s) = (s ≡ t) × IsSymbolText t
-SaysNew t (Err BadText) = IsSymbolText t → ⊥
-SaysNew t (Err Memory) = IsSymbolText t
+SaysNew text (Ok s) = NamesSymbol text s
+SaysNew text (Err BadText) = (s : List ℕ) → NamesSymbol text s → ⊥
+SaysNew text (Err Memory) = (s : List ℕ) × NamesSymbol text s

@@ -3,7 +3,7 @@
 ghost use Rattle.std.specs.Prelude.{◌≡◌, [], ◌∷◌, ◌++◌, ◌<◌, length, map, slice_get, IfOk, IfNone, OnOk, OnErr, OnSome, IsTrue};
 ghost use Rattle.std.specs.Option.{option_map, option_copied};
 ghost use Rattle.lisp_data.specs.Datum.{IntForm, SymForm, TextForm, PairForm, nil_form, chain};
-ghost use Rattle.lisp_data.specs.FormView.{form_of, forms_of, items_of, IsProper};
+ghost use Rattle.lisp_data.specs.FormView.{form_of, forms_of, items_of, end_of, IsEnd, IsProper, AllProper, AreProper, EndIsProper};
 
 use crate::symbol::Symbol;
 use lists::{Bytes, Memory};
@@ -29,7 +29,8 @@ pub struct Forms {
 
 impl Forms {
     pub fn new(alloc: Global) -> Forms
-        ensures { forms_of result ≡ [] }
+        ensures forms { forms_of result ≡ [] }
+        ensures proper { AreProper result }
     {
         Forms {
             items: Vec::new(alloc),
@@ -55,11 +56,27 @@ impl Forms {
         self.items.get(place)
     }
 
+    /// Adds a form at the end. Where there is no memory the list is as before.
+    #[tactic(auto, using(crate::proofs::Proper::proper))]
     pub fn push(&mut self, item: Form) -> Result<(), Memory>
         ensures ok { OnOk result (forms_of self.new ≡ forms_of self.old ++ form_of item ∷ []) }
         ensures err { OnErr result (forms_of self.new ≡ forms_of self.old) }
+        ensures proper { OnOk result (AreProper self.old → IsProper item → AreProper self.new) }
     {
         match self.items.push(item) {
+            Ok(()) => Ok(()),
+            Err(_) => Err(Memory),
+        }
+    }
+
+    /// Adds the forms of another list at the end. Where there is no memory the list is as before.
+    #[tactic(auto, using(crate::proofs::Proper::proper))]
+    pub fn append(&mut self, mut rest: Forms) -> Result<(), Memory>
+        ensures ok { OnOk result (forms_of self.new ≡ forms_of self.old ++ forms_of rest) }
+        ensures err { OnErr result (forms_of self.new ≡ forms_of self.old) }
+        ensures proper { OnOk result (AreProper self.old → AreProper rest → AreProper self.new) }
+    {
+        match self.items.append(&mut rest.items) {
             Ok(()) => Ok(()),
             Err(_) => Err(Memory),
         }
@@ -68,54 +85,82 @@ impl Forms {
 
 impl Form {
     /// Items alone.
-    #[tactic(auto, using(crate::proofs::Chains::chains))]
+    #[tactic(auto, using(crate::proofs::Proper::proper))]
     pub fn list(items: Forms) -> Form
-        ensures { form_of result ≡ chain (forms_of items) nil_form }
+        ensures form { form_of result ≡ chain (forms_of items) nil_form }
+        ensures proper { AreProper items → 0 < length (forms_of items) → IsProper result }
     {
         Form::List(items, None)
     }
 
-    #[tactic(auto, using(crate::proofs::Chains::chains))]
-    pub fn dotted(alloc: Global, items: Forms, tail: Form) -> Result<Form, Memory>
-        ensures { IfOk result (λ f. form_of f ≡ chain (forms_of items) (form_of tail)) }
+    /// Items, and the form after the point. A list there, or NIL, is joined to the items.
+    #[tactic(auto, using(crate::proofs::Proper::proper))]
+    pub fn dotted(alloc: Global, mut items: Forms, tail: Form) -> Result<Form, Memory>
+        ensures form { IfOk result (λ f. form_of f ≡ chain (forms_of items) (form_of tail)) }
+        ensures proper { IfOk result (λ f. AreProper items → 0 < length (forms_of items) → IsProper tail → IsProper f) }
     {
-        match Rc::new(alloc, tail) {
-            Ok(tail) => Ok(Form::List(items, Some(tail))),
+        match tail {
+            Form::List(rest, end) => {
+                items.append(rest)?;
+                Ok(Form::List(items, end))
+            }
+            Form::Sym(name) => {
+                if name.is_nil() {
+                    Ok(Form::List(items, None))
+                } else {
+                    Form::ended(alloc, items, Form::Sym(name))
+                }
+            }
+            Form::Int(_) | Form::Text(_) => Form::ended(alloc, items, tail),
+        }
+    }
+
+    /// Items, and an end that is neither a list nor NIL.
+    #[tactic(auto, using(crate::proofs::Proper::proper))]
+    fn ended(alloc: Global, items: Forms, end: Form) -> Result<Form, Memory>
+        ensures form { IfOk result (λ f. form_of f ≡ chain (forms_of items) (form_of end)) }
+        ensures proper { IfOk result (λ f. AreProper items → 0 < length (forms_of items) → IsProper end → IsEnd end → IsProper f) }
+    {
+        match Rc::new(alloc, end) {
+            Ok(end) => Ok(Form::List(items, Some(end))),
             Err(_) => Err(Memory),
         }
     }
 
-    /// Whether it is written in the same way, and so is the same form.
+    /// Whether it is the same form.
     #[cycle(same)]
-    #[tactic(auto, using(crate::proofs::Chains::chains))]
+    #[tactic(auto, using(crate::proofs::Same::same))]
     pub fn same(&self, other: &Form) -> bool
         ensures found { IsTrue result → form_of self.now ≡ form_of other.now }
+        ensures only { IsProper self.now → IsProper other.now → form_of self.now ≡ form_of other.now → IsTrue result }
     {
-        match (self, other) {
-            (Form::Int(a), Form::Int(b)) => a == b,
-            (Form::Sym(a), Form::Sym(b)) => a.same(b),
-            (Form::Text(a), Form::Text(b)) => a.as_slice() == b.as_slice(),
-            (Form::List(xs, tail), Form::List(ys, end)) => {
-                if !same_all(xs.as_slice(), ys.as_slice()) {
-                    return false;
-                }
-                match tail {
-                    None => end.is_none(),
-                    Some(a) => match end {
-                        None => false,
-                        Some(b) => a.same(b),
-                    },
-                }
-            }
-            _ => false,
+        match self {
+            Form::Int(a) => match other {
+                Form::Int(b) => a == b,
+                Form::Sym(_) | Form::Text(_) | Form::List(_, _) => false,
+            },
+            Form::Sym(a) => match other {
+                Form::Sym(b) => a.same(b),
+                Form::Int(_) | Form::Text(_) | Form::List(_, _) => false,
+            },
+            Form::Text(a) => match other {
+                Form::Text(b) => a.as_slice() == b.as_slice(),
+                Form::Int(_) | Form::Sym(_) | Form::List(_, _) => false,
+            },
+            Form::List(xs, tail) => match other {
+                Form::List(ys, end) => same_all(xs.as_slice(), ys.as_slice())
+                    && same_end(tail, end),
+                Form::Int(_) | Form::Sym(_) | Form::Text(_) => false,
+            },
         }
     }
 
     /// An equal form.
     #[cycle(copy)]
-    #[tactic(auto, using(crate::proofs::Chains::chains))]
+    #[tactic(auto, using(crate::proofs::Proper::copies))]
     pub fn copy(&self, alloc: Global) -> Result<Form, Memory>
-        ensures { IfOk result (λ f. form_of f ≡ form_of self.now) }
+        ensures form { IfOk result (λ f. form_of f ≡ form_of self.now) }
+        ensures proper { IfOk result (λ f. IsProper self.now → IsProper f) }
     {
         match self {
             Form::Int(number) => Ok(Form::Int(*number)),
@@ -139,9 +184,10 @@ impl Form {
 impl Forms {
     /// An equal list.
     #[cycle(copy)]
-    #[tactic(auto, using(crate::proofs::Chains::chains))]
+    #[tactic(auto, using(crate::proofs::Proper::copies))]
     pub fn copy(&self, alloc: Global) -> Result<Forms, Memory>
-        ensures { IfOk result (λ fs. forms_of fs ≡ forms_of self.now) }
+        ensures forms { IfOk result (λ fs. forms_of fs ≡ forms_of self.now) }
+        ensures proper { IfOk result (λ fs. AreProper self.now → AreProper fs) }
     {
         let mut copy = Forms::new(alloc);
         for item in &self.items {
@@ -155,6 +201,7 @@ impl Forms {
 #[tactic(auto, using(crate::proofs::Chains::lists))]
 fn same_all(xs: &[Form], ys: &[Form]) -> bool
     ensures found { IsTrue result → map form_of xs.now ≡ map form_of ys.now }
+    ensures only { AllProper xs.now → AllProper ys.now → map form_of xs.now ≡ map form_of ys.now → IsTrue result }
 {
     if xs.len() != ys.len() {
         return false;
@@ -165,4 +212,20 @@ fn same_all(xs: &[Form], ys: &[Form]) -> bool
         }
     }
     true
+}
+
+/// Whether two lists have the same form after their point, or none.
+#[cycle(same)]
+#[tactic(auto, using(crate::proofs::Same::same))]
+fn same_end(tail: &Option<Rc<Form>>, end: &Option<Rc<Form>>) -> bool
+    ensures found { IsTrue result → end_of tail.now ≡ end_of end.now }
+    ensures only { EndIsProper tail.now → EndIsProper end.now → end_of tail.now ≡ end_of end.now → IsTrue result }
+{
+    match tail {
+        None => end.is_none(),
+        Some(a) => match end {
+            None => false,
+            Some(b) => a.same(b),
+        },
+    }
 }

@@ -1,10 +1,19 @@
 //! Symbols, values and forms: shared data that contracts see without pointers.
 #![tactic(auto)]
 
+mod atom;
+mod fault;
 mod form;
 mod symbol;
+#[cfg(test)]
+mod tests;
 mod value;
 
+pub use atom::{Atom, in_atom};
+pub use fault::{
+    BAD_BYTE, BAD_DOT, BAD_NUMBER, BOOK_TOO_LONG, INTEGER_TOO_WIDE, STRAY_CLOSE, SYMBOL_TOO_LONG,
+    TOO_DEEP, UNCLOSED_LIST, UNCLOSED_TEXT,
+};
 pub use form::{Form, Forms};
 pub use lists::{Bytes, Memory, Seq, Share, Text};
 pub use symbol::{Symbol, SymbolError};

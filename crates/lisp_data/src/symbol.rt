@@ -1,7 +1,11 @@
-ghost use Rattle.std.specs.Prelude.{◌≡◌, ◌↔◌, IsTrue, IfOk, IfErr, MatchResult};
+ghost use Rattle.std.specs.Prelude.{◌≡◌, ◌↔◌, List, ℕ, map, codes, IsTrue, IsFalse, IfOk};
+ghost use Rattle.std.specs.Char.{to_ascii_uppercase};
+ghost use Rattle.std.specs.List.{list_all};
+ghost use Rattle.lisp_data.specs.Atoms as spec;
 ghost use Rattle.std.specs.Str.{bytes_eq};
-ghost use Rattle.lisp_data.specs.SymbolText.{IsSymbolText, SaysNew};
+ghost use Rattle.lisp_data.specs.SymbolText.{IsSymbolText, NamesSymbol, SaysNew};
 
+use crate::atom::{Atom, in_atom};
 use lists::{Memory, Share};
 use std::alloc::Global;
 use std::marker::Model;
@@ -36,21 +40,42 @@ pub enum SymbolError {
     Memory,
 }
 
-fn is_symbol_text(text: &str) -> bool
-    ensures { IsTrue result ↔ IsSymbolText text.now }
+fn is_atom(bytes: &[u8]) -> bool
+    ensures { result ≡ list_all spec.in_atom bytes.now }
 {
-    text.len() <= 255 && text.as_bytes().iter().all(|b| *b < 97 || *b > 122)
+    bytes.iter().all(|b| in_atom(*b))
+}
+
+/// Whether a text is a symbol, as an atom of a book.
+#[tactic(auto, using(crate::proofs::Uppercase::symbols))]
+fn names_symbol(text: &str) -> bool
+    ensures found { IsTrue result → NamesSymbol text.now (map to_ascii_uppercase text.now) }
+    ensures only { IsFalse result → (s : List ℕ) → NamesSymbol text.now s → ⊥ }
+{
+    if text.is_empty() {
+        return false;
+    }
+    if !is_atom(text.as_bytes()) {
+        return false;
+    }
+    match Atom::of(text, false) {
+        Atom::Symbol => true,
+        _ => false,
+    }
 }
 
 impl Symbol {
+    /// The symbol that a text is, as an atom of a book (docs/BOOKS.md): its letters turn to upper case.
+    #[tactic(auto, using(crate::proofs::Uppercase::symbols))]
     pub fn new(alloc: Global, text: &str) -> Result<Symbol, SymbolError>
-        ensures { SaysNew text.now result }
+        ensures symbol { SaysNew text.now result }
+        ensures upper { IfOk result (λ s. s ≡ map to_ascii_uppercase text.now) }
     {
-        if !is_symbol_text(text) {
+        if !names_symbol(text) {
             return Err(SymbolError::BadText);
         }
-        match String::from_str(alloc, text) {
-            Ok(copy) => match Rc::new(alloc, copy) {
+        match text.to_ascii_uppercase(alloc) {
+            Ok(upper) => match Rc::new(alloc, upper) {
                 Ok(text) => Ok(Symbol { text }),
                 Err(_) => Err(SymbolError::Memory),
             },
@@ -70,6 +95,12 @@ impl Symbol {
         ensures same { IsTrue result ↔ self.now ≡ other.now }
     {
         self.text() == other.text()
+    }
+
+    pub fn is_nil(&self) -> bool
+        ensures { IsTrue result ↔ (self.now ≡ codes "NIL") }
+    {
+        self.text() == "NIL"
     }
 
     /// The same symbol, with one more owner.

@@ -4,6 +4,8 @@
 mod memory;
 mod seq;
 mod share;
+#[cfg(test)]
+mod tests;
 
 pub use memory::Memory;
 pub use seq::Seq;

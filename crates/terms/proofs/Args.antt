@@ -2,7 +2,7 @@
 use Rattle.std.proofs.Common.{◌≡◌, ℕ, zero, suc, ◌+◌, ◌<◌, ◌≤◌, List, [], ◌∷◌, length, get_or, map, take, drop, refl, ap, sym, ◌∙◌, arith}
 use native.Mathlib.Numerals.{unary_clauses}
 use Rattle.std.proofs.lemmas.List.{take_all}
-use Rattle.terms.specs.Terms.{Tm, More, tms, tm_list, depth, depths, substitute, substitute_all}
+use Rattle.terms.specs.Terms.{Tm, More, count, tms, tm_list, depth, depths, substitute, substitute_all}
 use Rattle.terms.specs.TermFalls.{most_le-depths}
 use Rattle.terms.specs.Substitution.{Pairs, by_pairs}
 
@@ -30,5 +30,9 @@ pub tms-drop : (ts : List Tm) (i : ℕ) (d : Tm) → i < length ts → tms (drop
 tms-drop [] i d h = absurd (omega arith)
 tms-drop (t ∷ ts) zero d h = refl
 tms-drop (t ∷ ts) (suc i) d h = simp unary_clauses (simp unary_clauses at (tms-drop ts i d (omega arith)))
+
+pub count-tms : (ts : List Tm) → count (tms ts) ≡ length ts
+count-tms [] = refl
+count-tms (t ∷ ts) = let e = count-tms ts in omega arith
 
 pub ruleset args = (depth-get_or, tms-map_substitute, most_le-depths, tms_inj, tms-drop, take_all)

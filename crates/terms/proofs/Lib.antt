@@ -2,10 +2,12 @@ pub mod Args
 pub mod Keys
 pub mod Places
 pub mod Names
+pub mod Formals
 pub mod Below
 pub mod Models
 pub mod Extend
 pub mod Meaning
+pub mod Same
 pub mod Basics
 pub mod Totality
 pub mod Growth

@@ -6,8 +6,11 @@ mod entries;
 mod laws;
 mod path;
 mod sequent;
+mod signatures;
 mod subst;
 mod term;
+#[cfg(test)]
+mod tests;
 
 pub use definition::Definition;
 pub use entries::{FunPair, FunPairs, Iso, IsoUse, IsoUses, Link, Specification};
@@ -17,5 +20,6 @@ pub use laws::{
 };
 pub use path::{Path, at_path, put_at};
 pub use sequent::Sequent;
+pub use signatures::{Scope, Signatures};
 pub use subst::{Subst, substitute, variables};
 pub use term::{Node, Term, Terms};

@@ -1,11 +1,12 @@
 //! Substitution.
 
 ghost use Rattle.std.specs.Prelude.{◌≡◌, [], ◌∷◌, ◌++◌, IfOk, OnOk, OnErr, None, bytes_eq, length, slice_get};
-ghost use Rattle.std.specs.List.{list_any};
+ghost use Rattle.std.specs.List.{list_any, zip};
 ghost use Rattle.std.specs.Option.{option_copied};
 ghost use Rattle.terms.specs.Primitives.{lookup};
 ghost use Rattle.terms.specs.Substitution.{by_pairs};
-ghost use Rattle.terms.specs.Terms.{tms, substitute as substituted, substitute_all as all_substituted};
+ghost use Rattle.terms.specs.Terms.{tms, by_args, substitute as substituted, substitute_all as all_substituted};
+ghost use Rattle.terms.specs.Worlds.{Distinct};
 ghost use Rattle.terms.specs.Variables.{variables_of, with_variables, with_variables_in};
 
 use crate::term::{Node, Term, Terms};
@@ -43,6 +44,23 @@ impl Subst {
         Subst {
             pairs: Seq::new(alloc),
         }
+    }
+
+    /// The arguments of a call, for the formals of its function.
+    #[tactic(auto, using(crate::proofs::Formals::formals))]
+    pub fn of_arguments(alloc: Global, formals: &Symbols, args: &Terms) -> Result<Subst, Memory>
+        requires distinct { Distinct formals.now }
+        requires lengths { length formals.now ≡ length args.now }
+        ensures pairs { IfOk result (λ s. s ≡ zip formals.now args.now) }
+        ensures replaces { IfOk result (λ s. by_pairs s ≡ by_args formals.now (tms args.now)) }
+    {
+        let formals = formals.as_slice();
+        let args = args.as_slice();
+        let mut s = Subst::new(alloc);
+        for i in 0..formals.len() {
+            s.push(formals[i].share()?, args[i].share()?)?;
+        }
+        Ok(s)
     }
 
     pub fn len(&self) -> usize

@@ -88,9 +88,10 @@ impl Term {
     }
 
     #[cycle(same)]
-    #[tactic(auto, using(crate::proofs::Args::args))]
+    #[tactic(auto, using(crate::proofs::Same::same))]
     pub fn same(&self, other: &Term) -> bool
-        ensures { IsTrue result ↔ self.now ≡ other.now }
+        ensures value { result ≡ same_tm self.now other.now }
+        ensures same { IsTrue result ↔ self.now ≡ other.now }
     {
         match (self.node(), other.node()) {
             (Node::Var(a), Node::Var(b)) => a.same(b),
@@ -110,9 +111,10 @@ impl Share for Term {
 }
 
 #[cycle(same)]
-#[tactic(auto, using(crate::proofs::Args::args))]
+#[tactic(auto, using(crate::proofs::Same::same))]
 fn same_all(xs: &[Term], ys: &[Term]) -> bool
-    ensures { IsTrue result ↔ xs.now ≡ ys.now }
+    ensures value { result ≡ same_tms (tms xs.now) (tms ys.now) }
+    ensures same { IsTrue result ↔ xs.now ≡ ys.now }
 {
     if xs.len() != ys.len() {
         return false;

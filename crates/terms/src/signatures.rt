@@ -1,0 +1,20 @@
+ghost use Rattle.std.specs.Prelude.{◌≡◌, ℕ, List, Option};
+
+use lisp_data::{Symbol, Symbols};
+
+/// What functions there are.
+pub trait Signatures {
+    /// How many arguments each function takes.
+    ghost arity_of: { Self → List ℕ → Option ℕ };
+
+    /// How many arguments the function of this name takes, if there is one.
+    fn arity(&self, name: &Symbol) -> Option<usize>
+        ensures { result ≡ arity_of self.now name.now };
+}
+
+/// Which variables a term may have.
+#[derive(Drop)]
+pub enum Scope<'a> {
+    Any,
+    Only(&'a Symbols),
+}
