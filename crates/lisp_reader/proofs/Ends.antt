@@ -1,0 +1,92 @@
+-- How many forms a book has, and how one that goes on ends.
+use Rattle.std.proofs.Common.{◌≡◌, ◌≢◌, ℕ, zero, suc, ◌+◌, ◌-◌, ◌<◌, ◌≤◌, Bool, true, false, ◌&&◌, nat_eq, if◌then◌else◌, List, [], ◌∷◌, length, drop, Option, Some, None, refl, ap, sym, ◌∙◌, subst, arith}
+use Rattle.lisp_data.specs.Datum.{Datum}
+use Rattle.lisp_data.specs.declared.fault.TheConstants.{TOO_DEEP, BOOK_TOO_LONG}
+use Rattle.lisp_reader.specs.Spans.{Front, Nothing, Gap, EndlessGap, Open, Close, Quote, Text, EndlessText, Atom, Stray, front, begins, gaps, behind}
+use Rattle.lisp_reader.specs.Grammar.{Read, Got, Bad, shift, one_by, one, items, quote_form, mapped, form, next_form, book_and, before, book, parse}
+
+abbrev Books : Type 0
+Books = List (Datum × ℕ) × Option (ℕ × ℕ)
+
+abbrev IsBad : Read → Type 0
+IsBad (Got f n) = ⊥
+IsBad (Bad c n) = Unit {0}
+
+module _ (more : Bool) where
+  one_bad : (inside : Bool) (list mark : List ℕ → Read) (text : List ℕ) (f : Front) → begins f ≡ false → IsBad (one_by more inside list mark text f)
+  one_bad inside list mark text Nothing e = tt
+  one_bad inside list mark text (Gap n) e = tt
+  one_bad inside list mark text EndlessGap e = tt
+  one_bad inside list mark text Open e = cc
+  one_bad inside list mark text Close e = tt
+  one_bad inside list mark text Quote e = cc
+  one_bad inside list mark text (Text n) e = cc
+  one_bad inside list mark text EndlessText e = cc
+  one_bad inside list mark text (Atom n) e = cc
+  one_bad inside list mark text Stray e = tt
+
+  shift_bad : (n : ℕ) (r : Read) → IsBad r → IsBad (shift n r)
+  shift_bad n (Got f m) h = absurd h
+  shift_bad n (Bad c m) h = tt
+
+  form_bad : (inside : Bool) (depth : ℕ) (text : List ℕ) → begins (front (behind text)) ≡ false → IsBad (form more inside depth text)
+  unfolding form
+  form_bad inside zero text e = shift_bad (gaps text) _ (one_bad inside (λ t. Bad TOO_DEEP 0) (λ t. Bad TOO_DEEP 0) (behind text) (front (behind text)) e)
+  form_bad inside (suc depth) text e =
+      shift_bad (gaps text) _
+      (one_bad inside (λ t. shift 1 (items more (form more true depth) false 0 (drop 1 t))) (λ t. shift 1 (mapped quote_form (form more true depth (drop 1 t)))) (behind text) (front (behind text)) e)
+
+  -- no form is read where no more may come
+  none_bad : (text : List ℕ) → IsBad (next_form more true text)
+  none_bad text = by_front (begins (front (behind text))) refl
+    where
+      by_front : (b : Bool) → begins (front (behind text)) ≡ b → IsBad (if b && true then Bad BOOK_TOO_LONG (gaps text) else form more false 200 text)
+      by_front true e = tt
+      by_front false e = form_bad false 200 text e
+
+  few_after : (left place : ℕ) (r : Read) (rest : Datum → ℕ → Books) → (nat_eq left 0 ≡ true → IsBad r) → ((f : Datum) (n : ℕ) → length (rest f n).0 ≤ suc (left - 1)) → length (book_and more r place rest).0 ≤ left
+  few_after left place (Bad c n) rest none h = omega arith
+  few_after zero place (Got f n) rest none h = absurd (none refl)
+  few_after (suc left) place (Got f n) rest none h = omega (arith, h f n)
+
+  -- no more forms than may come
+  pub few_forms : (left place skip : ℕ) (text : List ℕ) → length (book more left place skip text).0 ≤ left
+  unfolding book
+  few_forms left place skip [] = omega arith
+  few_forms left place (suc skip) (b ∷ t) = few_forms left (place + 1) skip t
+  few_forms left place zero (b ∷ t) =
+      by_end (nat_eq (length (behind (b ∷ t))) 0) (if more then Some (BOOK_TOO_LONG, place + gaps (b ∷ t)) else None)
+      (book_and more (next_form more (nat_eq left 0) (b ∷ t)) place (λ f n. before more (f, place + gaps (b ∷ t)) (book more (left - 1) (place + 1) n t)))
+      (few_after left place (next_form more (nat_eq left 0) (b ∷ t)) (λ f n. before more (f, place + gaps (b ∷ t)) (book more (left - 1) (place + 1) n t)) (λ e. subst (λ n. IsBad (next_form more n (b ∷ t))) (sym e) (none_bad (b ∷ t))) (λ f n. let h = few_forms (left - 1) (place + 1) n t in omega arith))
+    where
+      by_end : (c : Bool) (x : Option (ℕ × ℕ)) (y : Books) → length y.0 ≤ left → length (if c then ([], x) else y).0 ≤ left
+      by_end true x y h = omega arith
+      by_end false x y h = h
+
+pub few : (more : Bool) (text : List ℕ) → length (parse more text).0 ≤ 10000
+few more text = few_forms more 10000 0 0 text
+
+abbrev IsThere : Option (ℕ × ℕ) → Type 0
+IsThere None = ⊥
+IsThere (Some fault) = Unit {0}
+
+-- a book that goes on never ends with its last form
+module _ where
+  book_goes_on : (left place skip : ℕ) (text : List ℕ) → IsThere (book true left place skip text).1
+  unfolding book
+  book_goes_on left place skip [] = tt
+  book_goes_on left place (suc skip) (b ∷ t) = book_goes_on left (place + 1) skip t
+  book_goes_on left place zero (b ∷ t) =
+      by_end (nat_eq (length (behind (b ∷ t))) 0) (book_and true (next_form true (nat_eq left 0) (b ∷ t)) place (λ f n. before true (f, place + gaps (b ∷ t)) (book true (left - 1) (place + 1) n t)))
+      (after (next_form true (nat_eq left 0) (b ∷ t)) (λ n. book_goes_on (left - 1) (place + 1) n t))
+    where
+      by_end : (c : Bool) (y : Books) → IsThere y.1 → IsThere (if c then ([], Some (BOOK_TOO_LONG, place + gaps (b ∷ t))) else y).1
+      by_end true y h = tt
+      by_end false y h = h
+
+      after : (r : Read) → ((n : ℕ) → IsThere (book true (left - 1) (place + 1) n t).1) → IsThere (book_and true r place (λ f n. before true (f, place + gaps (b ∷ t)) (book true (left - 1) (place + 1) n t))).1
+      after (Got f n) h = h n
+      after (Bad c n) h = tt
+
+pub goes_on : (text : List ℕ) → (parse true text).1 ≡ None → ⊥
+goes_on text e = subst IsThere e (book_goes_on 10000 0 0 text)

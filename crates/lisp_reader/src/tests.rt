@@ -1,0 +1,119 @@
+use crate::read::ReadError;
+use crate::reader::FormReader;
+use lisp_data::Form;
+use std::test::Fail;
+
+// How many forms a text has, and its end: the code and place of its first fault, or 0 at 0.
+fn outcome(rt: &HostRuntime, text: &[u8], more: bool) -> (u32, u8, u64) {
+    let mut reader = FormReader::new(text, more);
+    for forms in 0..50 {
+        match reader.next(rt.alloc()) {
+            Ok(Some(_)) => {}
+            Ok(None) => return (forms, 0, 0),
+            Err(ReadError::Refused { code, place }) => return (forms, code, place),
+            Err(ReadError::Memory) => return (forms, 99, 0),
+        }
+    }
+    (50, 98, 0)
+}
+
+#[test]
+fn books(rt: HostRuntime) {
+    let expected: [(&[u8], u32, u8, u64); 30] = [
+        (b"(defun a (x) x) )", 1, 3, 16),
+        (b"(defun f (x) (cons x 1/2))", 0, 5, 21),
+        (b"#|a #|b|# c|# (defun k (x) 'x)", 1, 0, 0),
+        (b"(a 'b -12) ; c\n #| d |# ()", 2, 0, 0),
+        (
+            b"(a . (b)) (a b . c ) (a . nil) (a . 'b) \"a\\\"b\"",
+            5,
+            0,
+            0,
+        ),
+        (b"(a . )", 0, 4, 5),
+        (b"( . a)", 0, 4, 2),
+        (b"(a . b (c))", 0, 4, 7),
+        (b"(a . b #x)", 0, 1, 7),
+        (b"(a . b :)", 0, 1, 7),
+        (b"(a . b :x)", 0, 4, 7),
+        (b"(a . ')", 0, 3, 6),
+        (b"(a . (b . c) d)", 0, 4, 13),
+        (b"(a . (b . (c)", 0, 2, 13),
+        (b"(a", 0, 2, 2),
+        (b"'", 0, 2, 1),
+        (b"')", 0, 3, 1),
+        (b"(a \"b", 0, 2, 5),
+        (b"' #| b", 0, 2, 6),
+        (b"a \"b", 1, 10, 4),
+        (b"#| #| |#", 0, 10, 8),
+        (b"a:b", 0, 1, 1),
+        (b"a . b", 1, 4, 2),
+        (b"(a .. b)", 0, 4, 3),
+        (b"(a ' . b)", 0, 4, 5),
+        (b"170141183460469231731687303715884105728", 0, 6, 0),
+        (b"-170141183460469231731687303715884105728", 1, 0, 0),
+        (b"1.e5", 0, 5, 0),
+        (b"-.5", 0, 5, 0),
+        (b"1e 1/ +. .a - 00", 6, 0, 0),
+    ];
+    for (text, forms, code, place) in expected {
+        assert_eq!(rt;
+            outcome(&rt, text, false),
+            (forms, code, place),
+            "in {text:?}"
+        );
+    }
+    let going_on: [(&[u8], u32, u8, u64); 6] = [
+        (b"a ", 1, 8, 2),
+        (b"ab", 0, 8, 2),
+        (b"1/2", 0, 8, 3),
+        (b"a #", 1, 8, 3),
+        (b"(a:", 0, 1, 2),
+        (b"(a . b c", 0, 4, 7),
+    ];
+    for (text, forms, code, place) in going_on {
+        assert_eq!(rt;
+            outcome(&rt, text, true),
+            (forms, code, place),
+            "in {text:?}"
+        );
+    }
+}
+
+#[test]
+fn depths(rt: HostRuntime) -> Result<(), Fail> {
+    for (depth, code, place) in [(200, 0, 0), (201, 7, 200)] {
+        let mut text = Vec::new(rt.alloc());
+        for _ in 0..depth {
+            text.push(b'(')?;
+        }
+        for _ in 0..depth {
+            text.push(b')')?;
+        }
+        assert_eq!(rt;
+            outcome(&rt, text.as_slice(), false),
+            (u32::from(code == 0), code, place)
+        );
+    }
+    Ok(())
+}
+
+// How many items a list without a point has.
+fn items_len(form: &Form) -> usize {
+    match form {
+        Form::List(items, None) => items.len(),
+        _ => 0,
+    }
+}
+
+#[test]
+fn joined(rt: HostRuntime) {
+    let mut reader = FormReader::new(b" (a . (b . (\"c\\\\\" . nil)))", false);
+    match reader.next(rt.alloc()) {
+        Ok(Some(located)) => {
+            assert_eq!(rt; located.place, 1);
+            assert_eq!(rt; items_len(&located.form), 3);
+        }
+        _ => assert!(rt; false),
+    }
+}
