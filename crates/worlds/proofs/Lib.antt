@@ -1,0 +1,4 @@
+pub mod Reserved
+pub mod Free
+pub mod Growth
+pub mod Lookups

@@ -1,0 +1,11 @@
+//! Worlds: what a book has made so far, as an immutable list of entries in which each version shares its tail with
+//! the one before.
+#![tactic(auto)]
+
+mod entry;
+mod function;
+mod names;
+mod world;
+
+pub use function::Function;
+pub use world::{World, WorldError};
