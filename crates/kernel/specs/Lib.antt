@@ -1,0 +1,5 @@
+pub mod Rules
+pub mod Concludes
+pub mod Laws
+pub mod Conclusion
+pub mod Answers

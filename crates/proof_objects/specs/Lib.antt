@@ -1,0 +1,2 @@
+pub mod ProofTrees
+pub mod ProofView
