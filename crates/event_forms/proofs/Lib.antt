@@ -1,0 +1,5 @@
+pub mod NameLemmas
+pub mod ItemLemmas
+pub mod TermLemmas
+pub mod ProofLemmas
+pub mod Fits
