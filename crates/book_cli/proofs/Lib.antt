@@ -1,0 +1,5 @@
+pub mod FormalLemmas
+pub mod WellFormed
+pub mod ReportLemmas
+pub mod StepLemmas
+pub mod RunLemmas

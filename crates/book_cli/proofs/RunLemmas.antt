@@ -1,0 +1,91 @@
+-- The book that is read, and the one word.
+use Rattle.std.proofs.Common.{◌≡◌, ℕ, ◌+◌, ◌<◌, ◌≤◌, Bool, true, false, List, [], ◌∷◌, ◌++◌, length, get_or, take, Option, Some, None, IfSome, IsTrue, nat_lt, refl, ap, sym, ◌∙◌, subst, arith, length-append}
+use Rattle.std.proofs.lemmas.Bool.Decides.{nat_tests}
+use Rattle.std.proofs.lemmas.List.{take-append-le, append-nil}
+use Rattle.std.specs.Prelude.{if◌then◌else◌, nat_eq}
+use Rattle.std.specs.Cmp.Lexicographic.{same_text, other_text}
+use lib.Pointwise.{pointwise}
+use Rattle.ports.specs.Streams.{Grows, GrowsByFront}
+use Rattle.ports.specs.ReadAll.{IsWhole, IsCut}
+use Rattle.ports.proofs.Streams.{Grows-trans}
+use Rattle.lisp_data.specs.Datum.{Datum}
+use Rattle.lisp_reader.specs.Grammar.{parse, book_of}
+use Rattle.lisp_reader.proofs.Ends.{goes_on}
+use Rattle.terms.specs.Worlds.{World}
+use Rattle.terms.specs.Sound.{Sound}
+use Rattle.book_cli.specs.Report.{Read, accepts, accepts_all, report, report_of, world_made}
+use Rattle.book_cli.specs.Outcomes.{IsReported, IsAcceptedRun, IsRefusedRun}
+use Rattle.book_cli.proofs.ReportLemmas.{begun_cut}
+
+pub whole_is : (bytes : List ℕ) → length bytes ≤ 1048576 → book_of bytes ≡ parse false bytes
+whole_is bytes h =
+    let test : nat_lt 1048576 (length bytes) ≡ false = grind (arith, nat_tests) in
+    ap (λ b. if b then parse true (take 1048576 bytes) else parse false bytes) test
+
+front_is : (bytes : List ℕ) → 1048576 < length bytes → book_of bytes ≡ parse true (take 1048576 bytes)
+front_is bytes h =
+    let test : nat_lt 1048576 (length bytes) ≡ true = grind (arith, nat_tests) in
+    ap (λ b. if b then parse true (take 1048576 bytes) else parse false bytes) test
+
+-- a book that was read whole
+pub whole_book : (left after : Option (List ℕ)) (all : List ℕ) → IsWhole left after 1048576 all → IfSome left (λ bytes. book_of bytes ≡ parse false all)
+whole_book None after all it = tt
+whole_book (Some bytes) after all it =
+    let e : all ≡ bytes = it.all_left in
+    whole_is bytes (subst (λ (xs : List ℕ). length xs ≤ 1048576) e it.within) ∙ ap (parse false) (sym e)
+
+-- a longer book
+pub front_book : (left : Option (List ℕ)) (front : List ℕ) → IsCut left 1048576 front → IfSome left (λ bytes. book_of bytes ≡ parse true front)
+front_book None front it = tt
+front_book (Some bytes) front it = front_is bytes it.more ∙ ap (parse true) (sym it.first)
+
+pub if_some : (o : Option (List ℕ)) (P Q : List ℕ → Type 0) → IfSome o P → ((bytes : List ℕ) → P bytes → Q bytes) → IfSome o Q
+if_some None P Q h f = tt
+if_some (Some bytes) P Q h f = f bytes h
+
+accepts_to_end : (W : World) (es : List (Datum × ℕ)) (end : Option (ℕ × ℕ)) → accepts W es end ≡ true → end ≡ None
+accepts_to_end W es None h = refl
+accepts_to_end W es (Some fault) h = cc
+
+-- a longer book is never accepted
+pub front_refused : (front : List ℕ) → accepts_all (parse true front) ≡ true → ⊥
+front_refused front h = goes_on front (accepts_to_end _ (parse true front).0 (parse true front).1 h)
+
+-- a front of a first piece, and a front of a second
+pub front_first : (a b : Option (List ℕ)) (p q : List ℕ) → GrowsByFront a b p → GrowsByFront a b (p ++ q)
+front_first a b p q g =
+    (g.0, omega (arith, g.1, length-append p q), subst (Grows a b) (sym (take-append-le g.0 p q g.1)) g.2)
+
+pub front_second : (a b c : Option (List ℕ)) (p q : List ℕ) → Grows a b p → GrowsByFront b c q → GrowsByFront a c (p ++ q)
+front_second a b c p q g h = begun_cut a b c q q [] (p ++ q) (record { written = p; grown = g; split = refl }) (sym (append-nil q)) h
+
+-- a list of one word, which is tested
+pub one_word : (words : List (List ℕ)) (word check : List ℕ) (b : Bool) → 1 ≤ length words → length words < 2 → word ≡ get_or words 0 word → b ≡ pointwise nat_eq word check → (IsTrue b → words ≡ check ∷ []) × (words ≡ check ∷ [] → IsTrue b)
+one_word [] word check b h k e t = absurd (omega arith)
+one_word (w ∷ v ∷ words) word check b h k e t = absurd (omega arith)
+one_word (w ∷ []) word check true h k e t = (λ _. ap (λ x. x ∷ []) (sym e ∙ same_text word check t), λ _. refl)
+one_word (w ∷ []) word check false h k e t =
+    (λ i. cc, λ same. let is : w ≡ check = cc in absurd (other_text word check t (e ∙ is)))
+
+-- a book that was read whole and reported
+pub accepted_run : (left left_after held held_after : Option (List ℕ)) (bytes : List ℕ) → IsWhole left left_after 1048576 bytes → IsReported held held_after (parse false bytes) true → IsAcceptedRun left left_after held held_after
+accepted_run left left_after held held_after bytes whole it =
+    let same : book_of bytes ≡ parse false bytes = whole_is bytes whole.within in
+    record {
+      book = bytes;
+      whole = whole;
+      written = subst (λ (r : Read). Grows held held_after (report_of r)) (sym same) it.written;
+      none_refused = ap accepts_all same ∙ it.accepts;
+      sound = subst (λ (r : Read). Sound (world_made r)) (sym same) it.sound;
+    }
+
+-- what was read of a book and reported, with a refused line
+pub refused_run : (left held held_after : Option (List ℕ)) (read : Read) → IfSome left (λ bytes. book_of bytes ≡ read) → IsReported held held_after read false → IsRefusedRun left held held_after
+refused_run left held held_after read of_book it =
+    record {
+      read = read;
+      of_book = of_book;
+      written = it.written;
+      one_refused = it.accepts;
+      sound = it.sound;
+    }

@@ -1,0 +1,8 @@
+pub mod SmallFunctions
+pub mod Events
+pub mod Refusals
+pub mod Verdicts
+pub mod Report
+pub mod Steps
+pub mod Begun
+pub mod Outcomes

@@ -1,0 +1,17 @@
+//! Books: their events, their report, and the run of the program.
+#![tactic(auto)]
+
+mod definitions;
+mod lines;
+mod program;
+mod refusal;
+mod report;
+mod small_functions;
+mod status;
+mod steps;
+mod stop;
+
+pub use lists::{Bytes, Seq, Text};
+pub use program::{Words, run};
+pub use refusal::Refusal;
+pub use status::Status;

@@ -1,0 +1,49 @@
+//! The lines of a report.
+
+ghost use Rattle.std.specs.Prelude.{◌≡◌, ◌++◌, codes, IfOk};
+ghost use Rattle.std.specs.Fmt.{decimal};
+ghost use Rattle.book_cli.specs.Report.{refused_line};
+
+use crate::refusal::Refusal;
+use lisp_data::Symbol;
+use lists::{Memory, Text};
+use std::alloc::Global;
+
+/// The line of an accepted function.
+pub(crate) fn defun_line(alloc: Global, name: &Symbol) -> Result<Text, Memory>
+    ensures { IfOk result (λ text. text ≡ codes "ok defun " ++ (name.now ++ codes "\n")) }
+{
+    let name = name.text();
+    let text = format!(in alloc; "ok defun {name}\n")?;
+    Text::from_slice(alloc, text.as_bytes())
+}
+
+/// The line of an accepted theorem.
+pub(crate) fn defthm_line(alloc: Global, name: &Symbol) -> Result<Text, Memory>
+    ensures { IfOk result (λ text. text ≡ codes "ok defthm " ++ (name.now ++ codes "\n")) }
+{
+    let name = name.text();
+    let text = format!(in alloc; "ok defthm {name}\n")?;
+    Text::from_slice(alloc, text.as_bytes())
+}
+
+/// The line of a refused event: its index from 1, why, and the place of a byte of the book.
+pub(crate) fn refused_text(
+    alloc: Global,
+    index: u64,
+    why: &Refusal,
+    place: u64,
+) -> Result<Text, Memory>
+    ensures { IfOk result (λ text. text ≡ refused_line index why.now place) }
+{
+    let text = format!(in alloc; "refused {index} {why} at {place}\n")?;
+    Text::from_slice(alloc, text.as_bytes())
+}
+
+/// The last line.
+pub(crate) fn accepted_text(alloc: Global, events: u64, theorems: u64) -> Result<Text, Memory>
+    ensures { IfOk result (λ text. text ≡ codes "accepted " ++ (decimal events ++ (codes " events " ++ (decimal theorems ++ codes " theorems\n")))) }
+{
+    let text = format!(in alloc; "accepted {events} events {theorems} theorems\n")?;
+    Text::from_slice(alloc, text.as_bytes())
+}

@@ -1,0 +1,89 @@
+//! The top call, which does all that the program does.
+
+ghost use Rattle.std.specs.Prelude.{◌≡◌, ◌≢◌, ◌≤◌, ◌∷◌, ◌↔◌, [], IfSome, IsTrue, true, false, codes};
+ghost use Rattle.ports.specs.Causes.{Rose};
+ghost use Rattle.ports.specs.Streams.{GrowsByFront};
+ghost use Rattle.lisp_reader.specs.Grammar.{parse};
+ghost use Rattle.book_cli.specs.Report.{report, report_of};
+ghost use Rattle.book_cli.specs.Outcomes.{IsAcceptedRun, IsRefusedRun, IsReported, IsReportStatus, IsUntouched, is_cut};
+
+use crate::report::write_report;
+use crate::status::{Status, status_of};
+use lisp_reader::FormReader;
+use lists::{Seq, Text};
+use ports::{ReadAllError, Sink, Source, read_all};
+use std::alloc::Global;
+
+/// The words of a command, without the program's name.
+pub type Words = Seq<Text>;
+
+/// The longest book, in bytes.
+const LIMIT: usize = 1_048_576;
+
+/// Reads the book, checks its events and writes the report (docs/BOOKS.md). It does all that the program does.
+///
+/// The old log and the new log aren't touched as yet.
+pub fn run<B: Source, L: Source, K: Sink, P: Sink>(
+    alloc: Global,
+    words: &Words,
+    book: &mut B,
+    old_log: &mut L,
+    out: &mut K,
+    new_log: &mut P,
+) -> Status
+    // Other words than the one are refused, and nothing is touched.
+    ensures usage { result ≡ Status.Usage ↔ (words.now ≢ codes "check" ∷ []) }
+    ensures book_untouched { result ≡ Status.Usage → IsUntouched (B.left book.old) (B.left book.new) (B.faults book.old) (B.faults book.new) }
+    ensures out_untouched { result ≡ Status.Usage → IsUntouched (K.held out.old) (K.held out.new) (K.faults out.old) (K.faults out.new) }
+    ensures old_log_untouched { IsUntouched (L.left old_log.old) (L.left old_log.new) (L.faults old_log.old) (L.faults old_log.new) }
+    ensures new_log_untouched { IsUntouched (P.held new_log.old) (P.held new_log.new) (P.faults new_log.old) (P.faults new_log.new) }
+
+    // What is accepted is true: the whole book was read, its report was written, and each theorem of its world holds.
+    ensures accepted { result ≡ Status.Accepted → IsAcceptedRun (B.left book.old) (B.left book.new) (K.held out.old) (K.held out.new) }
+
+    // The whole report was written, with its refused line.
+    ensures refused { result ≡ Status.Refused → IsRefusedRun (B.left book.old) (K.held out.old) (K.held out.new) }
+
+    // After a fault or want of memory a front of the report was written.
+    ensures cut { IsTrue (is_cut result) → IfSome (B.left book.old) (λ bytes. GrowsByFront (K.held out.old) (K.held out.new) (report bytes)) }
+
+    // A fault is told only where one came.
+    ensures read_fault { result ≡ Status.ReadFault → Rose (B.faults book.old) (B.faults book.new) }
+    ensures read_fault_untouched { result ≡ Status.ReadFault → IsUntouched (K.held out.old) (K.held out.new) (K.faults out.old) (K.faults out.new) }
+    ensures write_fault { result ≡ Status.WriteFault → Rose (K.faults out.old) (K.faults out.new) }
+{
+    if !is_check(words) {
+        return Status::Usage;
+    }
+    match read_all(alloc, book, LIMIT) {
+        Ok(bytes) => report_bytes(alloc, bytes.as_slice(), false, out),
+        Err(error) => match error {
+            ReadAllError::ReadFault => Status::ReadFault,
+            ReadAllError::TooLong(front) => report_bytes(alloc, front.as_slice(), true, out),
+            ReadAllError::Memory => Status::Memory,
+        },
+    }
+}
+
+/// The one word that is taken as yet.
+fn is_check(words: &Words) -> bool
+    ensures { IsTrue result ↔ (words.now ≡ codes "check" ∷ []) }
+{
+    match words.as_slice() {
+        [word] => word.as_slice() == b"check".as_slice(),
+        _ => false,
+    }
+}
+
+/// The report of the bytes of a book, which goes on past them or not.
+fn report_bytes<K: Sink>(alloc: Global, bytes: &[u8], more: bool, out: &mut K) -> Status
+    ensures accepted { result ≡ Status.Accepted → IsReported (K.held out.old) (K.held out.new) (parse more bytes.now) true }
+    ensures refused { result ≡ Status.Refused → IsReported (K.held out.old) (K.held out.new) (parse more bytes.now) false }
+    ensures cut { IsTrue (is_cut result) → GrowsByFront (K.held out.old) (K.held out.new) (report_of (parse more bytes.now)) }
+    ensures others { IsReportStatus result }
+    ensures cause { result ≡ Status.WriteFault → Rose (K.faults out.old) (K.faults out.new) }
+    ensures later { K.faults out.old ≤ K.faults out.new }
+{
+    let mut reader = FormReader::new(bytes, more);
+    status_of(write_report(alloc, &mut reader, out))
+}
