@@ -1,0 +1,48 @@
+//! Checks a book of definitions and theorems, and writes a report of it (docs/BOOKS.md).
+#![tactic(auto)]
+
+use book_cli::{Status, Words, run};
+use lists::{Bytes, Memory, Text};
+use ports::{StdinSource, StdoutSink, SureSink, SureSource};
+use std::env;
+use std::process::ExitCode;
+
+fn main(rt: HostRuntime) -> ExitCode {
+    let status = match checked(&rt) {
+        Ok(status) => status,
+        Err(Memory) => Status::Memory,
+    };
+    if status == Status::Usage {
+        let _ = eprintln!(rt; "usage: derive check < BOOK");
+    }
+    ExitCode::from(status.code())
+}
+
+/// The run on the standard input and output. No log is read or written as yet.
+fn checked(rt: &HostRuntime) -> Result<Status, Memory> {
+    let words = command_words(rt)?;
+    let mut book = StdinSource::new(rt);
+    let mut out = StdoutSink::new(rt);
+    let mut old_log = SureSource::new(Bytes::new(rt.alloc()));
+    let mut new_log = SureSink::with_room(rt.alloc(), 0)?;
+    Ok(run(
+        rt.alloc(),
+        &words,
+        &mut book,
+        &mut old_log,
+        &mut out,
+        &mut new_log,
+    ))
+}
+
+/// The words of the command, without the program's name.
+fn command_words(rt: &HostRuntime) -> Result<Words, Memory> {
+    let mut words = Words::new(rt.alloc());
+    let Ok(all) = env::args(rt) else {
+        return Err(Memory);
+    };
+    for word in all.skip(1) {
+        words.push(Text::from_slice(rt.alloc(), word.as_bytes())?)?;
+    }
+    Ok(words)
+}

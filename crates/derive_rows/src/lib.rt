@@ -1,0 +1,13 @@
+//! Books and what is to be reported of them, run in memory.
+#![tactic(auto)]
+
+#[cfg(test)]
+mod faults;
+#[cfg(test)]
+mod first_books;
+#[cfg(test)]
+mod outcome;
+#[cfg(test)]
+mod refusals;
+#[cfg(test)]
+mod words;
