@@ -50,7 +50,7 @@ module _ (more : Bool) where
   book-bad left at [] c n h e = cc
   book-bad left at (b ∷ t) c n h e = book-and left at (b ∷ t) (Bad c n) h e b t refl
 
-  book-got : (left at : ℕ) (t : List ℕ) (f : Datum) (n : ℕ) → nat_eq (length (behind t)) 0 ≡ false → next_form more (nat_eq left 0) t ≡ Got f n → n < length t →
+  pub book-got : (left at : ℕ) (t : List ℕ) (f : Datum) (n : ℕ) → nat_eq (length (behind t)) 0 ≡ false → next_form more (nat_eq left 0) t ≡ Got f n → n < length t →
       book more left at 0 t ≡ before more (f, at + gaps t) (book more (left - 1) (at + (n + 1)) 0 (drop (n + 1) t))
   book-got left at [] f n h e room = absurd (omega arith)
   book-got left at (b ∷ t) f n h e room =

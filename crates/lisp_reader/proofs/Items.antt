@@ -28,17 +28,17 @@ module _ (more : Bool) where
       let e : 1 + k ≡ suc k = omega arith in
       ap (shift 1) (items-skip f some k t) ∙ shift-shift 1 k _ ∙ ap (λ n. shift n (items more f some 0 (drop k t))) e
 
-  items-close : (f : List ℕ → Read) (some : Bool) (t : List ℕ) → kind more some t ≡ Closes → items more f some 0 t ≡ Got nil_form (gaps t)
+  pub items-close : (f : List ℕ → Read) (some : Bool) (t : List ℕ) → kind more some t ≡ Closes → items more f some 0 t ≡ Got nil_form (gaps t)
   unfolding items front gaps_from
   items-close f some [] h = cc
   items-close f some (b ∷ t) h = ap (λ k. by_kind k (Got nil_form (gaps (b ∷ t))) (shift (gaps (b ∷ t) + 1) (last more f (drop (gaps (b ∷ t) + 1) (b ∷ t)))) (and_then (f (b ∷ t)) (λ x m. mapped (PairForm x) (shift 1 (items more f true m t))))) h
 
-  items-points : (f : List ℕ → Read) (some : Bool) (t : List ℕ) → kind more some t ≡ Points → items more f some 0 t ≡ shift (gaps t + 1) (last more f (drop (gaps t + 1) t))
+  pub items-points : (f : List ℕ → Read) (some : Bool) (t : List ℕ) → kind more some t ≡ Points → items more f some 0 t ≡ shift (gaps t + 1) (last more f (drop (gaps t + 1) t))
   unfolding items front gaps_from
   items-points f some [] h = cc
   items-points f some (b ∷ t) h = ap (λ k. by_kind k (Got nil_form (gaps (b ∷ t))) (shift (gaps (b ∷ t) + 1) (last more f (drop (gaps (b ∷ t) + 1) (b ∷ t)))) (and_then (f (b ∷ t)) (λ x m. mapped (PairForm x) (shift 1 (items more f true m t))))) h
 
-  items-item : (f : List ℕ → Read) (some : Bool) (t : List ℕ) (x : Datum) (n : ℕ) → kind more some t ≡ Item → f t ≡ Got x n → n < length t →
+  pub items-item : (f : List ℕ → Read) (some : Bool) (t : List ℕ) (x : Datum) (n : ℕ) → kind more some t ≡ Item → f t ≡ Got x n → n < length t →
       items more f some 0 t ≡ mapped (PairForm x) (shift (n + 1) (items more f true 0 (drop (n + 1) t)))
   unfolding items
   items-item f some [] x n h r room = absurd (omega arith)

@@ -106,7 +106,7 @@ escaped-step xs i e h =
     ap unescaped here ∙ ap (λ q. cond q (c ∷ unescaped (drop (i + 1 + 1) xs)) (b ∷ unescaped (c ∷ drop (i + 1 + 1) xs))) slash
     ∙ ap (λ k. c ∷ unescaped (drop k xs)) far
 
-plain-first : (b : ℕ) (t : List ℕ) → escapes (b ∷ t) ≡ false → unescaped (b ∷ t) ≡ b ∷ unescaped t
+pub plain-first : (b : ℕ) (t : List ℕ) → escapes (b ∷ t) ≡ false → unescaped (b ∷ t) ≡ b ∷ unescaped t
 unfolding escapes unescaped
 plain-first b [] e = refl
 plain-first b (c ∷ t) e = ap (λ q. cond q (c ∷ unescaped t) (b ∷ unescaped (c ∷ t))) e

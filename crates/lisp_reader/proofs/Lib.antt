@@ -4,4 +4,9 @@ pub mod Steps
 pub mod Lists
 pub mod Items
 pub mod Book
+pub mod Values
+pub mod Prints
+pub mod Numerals
+pub mod Again
+pub mod CallLaws
 pub mod Ends

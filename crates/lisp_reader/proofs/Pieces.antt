@@ -70,7 +70,7 @@ pub string-end : (xs : List ℕ) (i : ℕ) → length xs ≤ i → string_on xs 
 unfolding string
 string-end xs i h = ap (λ t. later i (string t)) (drop-end xs i h)
 
-string-first : (b : ℕ) (t : List ℕ) → string (b ∷ t) ≡ cond (nat_eq b 34) (Some 0) (cond (nat_eq b 92) (later 2 (string (drop 1 t))) (later 1 (string t)))
+pub string-first : (b : ℕ) (t : List ℕ) → string (b ∷ t) ≡ cond (nat_eq b 34) (Some 0) (cond (nat_eq b 92) (later 2 (string (drop 1 t))) (later 1 (string t)))
 unfolding string
 string-first b [] = ap (λ o. cond (nat_eq b 34) (Some 0) o) (none (nat_eq b 92) None)
   where

@@ -56,7 +56,7 @@ module _ (more : Bool) where
   mark_in zero t = Bad 7 0
   mark_in (suc d) t = shift 1 (mapped quote_form (form more true d (drop 1 t)))
 
-  form-one : (inside : Bool) (d : ℕ) (t : List ℕ) → form more inside d t ≡ one more inside (list_in d) (mark_in d) t
+  pub form-one : (inside : Bool) (d : ℕ) (t : List ℕ) → form more inside d t ≡ one more inside (list_in d) (mark_in d) t
   unfolding form
   form-one inside zero t = refl
   form-one inside (suc d) t = refl
@@ -66,7 +66,7 @@ module _ (more : Bool) where
   form-nil inside d = form-one inside d []
 
   -- where no gaps come first
-  form-at : (inside : Bool) (d : ℕ) (t : List ℕ) (f : Front) → gaps t ≡ 0 → front t ≡ f → form more inside d t ≡ one_by more inside (list_in d) (mark_in d) t f
+  pub form-at : (inside : Bool) (d : ℕ) (t : List ℕ) (f : Front) → gaps t ≡ 0 → front t ≡ f → form more inside d t ≡ one_by more inside (list_in d) (mark_in d) t f
   form-at inside d t f z e =
       let by : List ℕ → Front → Read = one_by more inside (list_in d) (mark_in d) in
       form-one inside d t ∙ ap (λ n. shift n (by (drop n t) (front (drop n t)))) z ∙ shift-zero _ ∙ ap (by t) e

@@ -6,3 +6,7 @@ pub mod Closes
 pub mod KindView
 pub mod Answers
 pub mod BookSteps
+pub mod FormValue
+pub mod Printed
+pub mod Writes
+pub mod Calls

@@ -1,12 +1,18 @@
 //! The reader of books (docs/BOOKS.md).
 #![tactic(auto)]
 
+mod laws;
+mod print;
 mod read;
 mod reader;
 mod token;
+mod value;
 
+pub use laws::{calls_read_in_order, forms_are_read_again, values_are_read_again};
+pub use print::{print_form, print_value};
 pub use read::ReadError;
 pub use reader::{FormReader, Located};
+pub use value::value_of;
 
 #[cfg(test)]
 mod tests;

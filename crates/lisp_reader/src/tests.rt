@@ -1,6 +1,5 @@
-use crate::read::ReadError;
-use crate::reader::FormReader;
-use lisp_data::Form;
+use crate::{FormReader, ReadError, print_form, print_value, value_of};
+use lisp_data::{Form, Text, ValueError};
 use std::test::Fail;
 
 // How many forms a text has, and its end: the code and place of its first fault, or 0 at 0.
@@ -116,4 +115,73 @@ fn joined(rt: HostRuntime) {
         }
         _ => assert!(rt; false),
     }
+}
+
+// The text of the first form of a book, and of its value.
+fn printed(rt: &HostRuntime, book: &[u8]) -> Result<(Text, Text), Fail> {
+    let mut form_text = Text::new(rt.alloc());
+    let mut value_text = Text::new(rt.alloc());
+    let mut reader = FormReader::new(book, false);
+    if let Ok(Some(located)) = reader.next(rt.alloc()) {
+        print_form(&located.form, &mut form_text)?;
+        if let Ok(value) = value_of(rt.alloc(), &located.form) {
+            print_value(&value, &mut value_text)?;
+        }
+    }
+    Ok((form_text, value_text))
+}
+
+#[test]
+fn texts(rt: HostRuntime) -> Result<(), Fail> {
+    let expected: [(&[u8], &[u8], &[u8]); 5] = [
+        (
+            b"(defun dup (x) (cons x x))",
+            b"(DEFUN DUP (X) (CONS X X))",
+            b"(DEFUN DUP (X) (CONS X X))",
+        ),
+        (b"'(a . \"q\\\"\\\\\")", b"(QUOTE (A . \"q\\\"\\\\\"))", b""),
+        (
+            b"(-007 +3 () (nil . b) . b)",
+            b"(-7 3 NIL (NIL . B) . B)",
+            b"(-7 3 NIL (NIL . B) . B)",
+        ),
+        (b"(a . (b . nil))", b"(A B)", b"(A B)"),
+        (b":key", b":KEY", b":KEY"),
+    ];
+    for (book, form, value) in expected {
+        let texts = printed(&rt, book)?;
+        assert_eq!(rt; texts.0.as_slice(), form);
+        assert_eq!(rt; texts.1.as_slice(), value);
+    }
+    Ok(())
+}
+
+// The code of how taking the value of the book's first form ends.
+fn value_end(rt: &HostRuntime, book: &[u8]) -> u8 {
+    let mut reader = FormReader::new(book, false);
+    match reader.next(rt.alloc()) {
+        Ok(Some(located)) => match value_of(rt.alloc(), &located.form) {
+            Ok(_) => 0,
+            Err(ValueError::TooLarge) => 1,
+            Err(ValueError::NotAValue) => 2,
+            Err(ValueError::Memory) => 3,
+        },
+        _ => 4,
+    }
+}
+
+#[test]
+fn value_limits(rt: HostRuntime) -> Result<(), Fail> {
+    for (items, end) in [(4096, 0), (4097, 1)] {
+        let mut book = Vec::new(rt.alloc());
+        book.push(b'(')?;
+        for _ in 0..items {
+            book.push(b'1')?;
+            book.push(b' ')?;
+        }
+        book.push(b')')?;
+        assert_eq!(rt; value_end(&rt, book.as_slice()), end);
+    }
+    assert_eq!(rt; value_end(&rt, b"(a (\"b\"))"), 2);
+    Ok(())
 }

@@ -1,0 +1,49 @@
+-- The value of a form.
+use Rattle.std.specs.Prelude.{◌≡◌, Bool, true, false, ◌||◌, Result, Ok, Err, List, [], ◌∷◌}
+use Rattle.std.specs.List.{list_any}
+use Rattle.lisp_data.specs.Values.{Val, IsSmall}
+use Rattle.lisp_data.specs.Values as v
+use Rattle.lisp_data.specs.ValueView.{val_of}
+use Rattle.lisp_data.specs.Datum.{Datum, IntForm, SymForm, TextForm, PairForm}
+use Rattle.lisp_data.specs.declared.value.ValueError.{ValueError}
+use Rattle.lisp_data.specs.declared.value.ValueError.TheVariants.{TooLarge, NotAValue, Memory}
+use Rattle.lisp_data.specs.declared.value.Value.{Value}
+
+-- there is a text in it
+abbrev pub has_text : Datum → Bool
+has_text (IntForm z) = false
+has_text (SymForm s) = false
+has_text (TextForm s) = true
+has_text (PairForm a d) = has_text a || has_text d
+
+-- the value of a form without a text
+abbrev pub value : Datum → Val
+value (IntForm z) = v.Int z
+value (SymForm s) = v.Sym s
+value (TextForm s) = v.Sym []
+value (PairForm a d) = v.Pair (value a) (value d)
+
+-- what giving the value of a form answers
+abbrev pub SaysValue : Datum → Result Value ValueError → Type 0
+SaysValue f (Ok r) = (has_text f ≡ false) × (val_of r ≡ value f) × IsSmall (value f)
+SaysValue f (Err TooLarge) = (has_text f ≡ false) × (IsSmall (value f) → ⊥)
+SaysValue f (Err NotAValue) = has_text f ≡ true
+SaysValue f (Err Memory) = Unit {0}
+
+-- the same, where a text may come to light later
+abbrev pub SaysBuilt : Datum → Result Value ValueError → Type 0
+SaysBuilt f (Ok r) = (val_of r ≡ value f) × IsSmall (value f)
+SaysBuilt f (Err TooLarge) = IsSmall (value f) → ⊥
+SaysBuilt f (Err NotAValue) = has_text f ≡ true
+SaysBuilt f (Err Memory) = Unit {0}
+
+-- the value of a list: those of its items, and what comes behind them
+abbrev pub value_before : List Datum → Val → Val
+value_before [] e = e
+value_before (f ∷ fs) e = v.Pair (value f) (value_before fs e)
+
+abbrev pub SaysBefore : List Datum → Val → Result Value ValueError → Type 0
+SaysBefore fs e (Ok r) = (val_of r ≡ value_before fs e) × IsSmall (value_before fs e)
+SaysBefore fs e (Err TooLarge) = IsSmall (value_before fs e) → ⊥
+SaysBefore fs e (Err NotAValue) = list_any has_text fs ≡ true
+SaysBefore fs e (Err Memory) = Unit {0}

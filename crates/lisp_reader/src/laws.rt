@@ -1,0 +1,26 @@
+//! Laws of the reader and of printed text.
+
+ghost use Rattle.std.specs.Prelude.{List};
+ghost use Rattle.lisp_data.specs.Datum.{Datum};
+ghost use Rattle.lisp_data.specs.Values.{Val};
+ghost use Rattle.lisp_reader.specs.Answers.{Answers};
+ghost use Rattle.lisp_reader.specs.Calls.{Answer, Run, ReadsInOrder};
+ghost use Rattle.lisp_reader.specs.Printed.{datum_of, IsPrintable, IsReadAgain, IsValueAgain};
+
+/// However a book is read call by call, the forms, their order and the end or first fault are the book's.
+#[tactic(auto, using(crate::proofs::CallLaws::calls))]
+pub fn calls_read_in_order()
+    ensures { (old : Answers) (rs : List Answer) (new : Answers) → Run old rs new → ReadsInOrder old new rs }
+{}
+
+/// The text of a form is read as that form.
+#[tactic(auto, using(crate::proofs::Again::prints))]
+pub fn forms_are_read_again()
+    ensures { (d : Datum) → IsPrintable d → IsReadAgain d }
+{}
+
+/// The text of a value is read as a form of that value.
+#[tactic(auto, using(crate::proofs::Again::prints))]
+pub fn values_are_read_again()
+    ensures { (v : Val) → IsPrintable (datum_of v) → IsValueAgain v }
+{}
