@@ -6,7 +6,7 @@ use Rattle.kernel.specs.declared.errors.RuleName.TheVariants.{Rule, Claim}
 use Rattle.book_cli.specs.declared.refusal.Refusal.{Refusal}
 use Rattle.book_cli.specs.declared.refusal.Refusal.TheVariants.{Unreadable, NotAnEvent, NameTaken, ProofWrong}
 
--- the word of what can't be read, by its code
+-- the word of what can't be read, by its code, which is from 1 to 10
 abbrev pub fault_word : ℕ → List ℕ
 fault_word code =
     if nat_eq code 1 then codes "BadByte" else if nat_eq code 2 then codes "UnclosedList"
@@ -15,7 +15,7 @@ fault_word code =
     else if nat_eq code 7 then codes "TooDeep" else if nat_eq code 8 then codes "BookTooLong"
     else if nat_eq code 9 then codes "SymbolTooLong" else codes "UnclosedText"
 
--- a proof rule's word
+-- a proof rule's word, by its number, which is 2, 3 or 4
 abbrev pub rule_word : RuleName → List ℕ
 rule_word (Rule n) = if nat_eq n 2 then codes ":REFL" else if nat_eq n 3 then codes ":REPLACE" else codes ":UNFOLD"
 rule_word Claim = codes ":CLAIM"

@@ -15,7 +15,7 @@ use Rattle.book_cli.specs.Verdicts.{Verdict, Accepted, Refused, verdict}
 abbrev pub Read : Type 0
 Read = List (Datum × ℕ) × Option (ℕ × ℕ)
 
--- an event's word and its name
+-- an event's word and its name; a line is written of events alone
 abbrev pub event_name : Option Event → List ℕ
 event_name None = []
 event_name (Some (Defun f formals body)) = codes "defun " ++ f

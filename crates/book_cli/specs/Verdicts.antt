@@ -24,11 +24,12 @@ pub data Verdict : Type 0 where
   Accepted : (world : World) → Verdict
   Refused : (why : Refusal) → Verdict
 
--- a function whose name is free
+-- a function whose name is free, by its definition, if its parts make one
 abbrev pub of_definition : World → Option Definition → Verdict
 of_definition W None = Refused NotAnEvent
 of_definition W (Some d) = Accepted (add_definition d W)
 
+-- the first bad node; there is one in each proof that concludes nothing (the kernel's law `bad_where_nothing`), so the first case never comes
 abbrev pub bad_node : Option (ℕ × ℕ) → Refusal
 bad_node None = NotAnEvent
 bad_node (Some bad) = ProofWrong bad.0 (Rule bad.1)
