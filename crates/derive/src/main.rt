@@ -2,8 +2,8 @@
 #![tactic(auto)]
 
 use book_cli::{Status, Words, run};
-use lists::{Bytes, Memory, Text};
-use ports::{StdinSource, StdoutSink, SureSink, SureSource};
+use lists::{Memory, Text};
+use ports::{FileSink, FileSource, StdinSource, StdoutSink};
 use std::env;
 use std::process::ExitCode;
 
@@ -18,13 +18,16 @@ fn main(rt: HostRuntime) -> ExitCode {
     ExitCode::from(status.code())
 }
 
-/// The run on the standard input and output. No log is read or written as yet.
+/// The file of the log in the working directory. The mode `check` neither reads nor writes it.
+const LOG: &str = "derive.log";
+
+/// The run on the standard input and output.
 fn checked(rt: &HostRuntime) -> Result<Status, Memory> {
     let words = command_words(rt)?;
     let mut book = StdinSource::new(rt);
     let mut out = StdoutSink::new(rt);
-    let mut old_log = SureSource::new(Bytes::new(rt.alloc()));
-    let mut new_log = SureSink::with_room(rt.alloc(), 0)?;
+    let mut old_log = FileSource::new(rt, LOG);
+    let mut new_log = FileSink::new(rt, LOG);
     Ok(run(
         rt.alloc(),
         &words,
