@@ -1,12 +1,12 @@
 -- When two forms are the same.
-use Rattle.std.proofs.Common.{◌≡◌, ◌+◌, ◌<◌, ◌≤◌, ◌++◌, zero, suc, length, get_or, take, arith, Option, Some, None, ℕ, ℤ, Bool, true, false, not, ◌&&◌, nat_eq, List, [], ◌∷◌, map, refl, ap, sym, subst, ◌∙◌, Global}
+use Rattle.std.proofs.Common.{◌≡◌, ◌<◌, zero, suc, length, get_or, arith, Option, Some, None, ℕ, ℤ, Bool, true, false, not, ◌&&◌, nat_eq, List, [], ◌∷◌, map, refl, ap, sym, subst, ◌∙◌, Global}
 use Rattle.std.specs.Option.{is_some}
 use lib.Pointwise.{pointwise}
 use Rattle.std.proofs.lemmas.Bool.Decides.{nat_tests}
 use Rattle.std.proofs.lemmas.List.{length-map}
 use Rattle.std.specs.declared.rc.Rc.{Rc}
 use Rattle.lisp_data.specs.Datum.{Datum, IntForm, SymForm, TextForm, PairForm, nil_form, chain}
-use Rattle.lisp_data.specs.FormView.{form_of, forms_of, end_of, EndIsProper, IsEnd, IsProper, AllProper, AreProper}
+use Rattle.lisp_data.specs.FormView.{form_of, forms_of, end_of, EndIsProper, IsEnd, IsProper, AllProper}
 use Rattle.lisp_data.specs.declared.form.Forms.{Forms}
 use Rattle.lisp_data.specs.declared.form.Form.{Form, Int, Sym, Text, List as Listed, List'}
 use Rattle.lisp_data.proofs.Chains.{form_of-int, form_of-sym, form_of-text, form_of-list, form_of-dotted}

@@ -1,5 +1,5 @@
 -- Upper case keeps what an atom is.
-use Rattle.std.proofs.Common.{◌≡◌, ℕ, zero, suc, ◌+◌, ◌<◌, ◌≤◌, Bool, true, false, cond, ◌&&◌, ◌||◌, not, nat_eq, nat_lt, Option, Some, None, List, [], ◌∷◌, length, map, drop, refl, ap, sym, subst, ◌∙◌, arith}
+use Rattle.std.proofs.Common.{◌≡◌, ℕ, ◌+◌, ◌<◌, Bool, true, false, cond, ◌&&◌, ◌||◌, not, nat_eq, nat_lt, Option, Some, None, List, [], ◌∷◌, length, map, drop, refl, ap, sym, subst, ◌∙◌, arith}
 use Rattle.std.proofs.lemmas.Bool.Decides.{nat_tests}
 use Rattle.std.proofs.lemmas.List.{length-map, drop-map}
 use Rattle.std.proofs.lemmas.Str.Ascii.{uppercase-uppercase}
@@ -8,7 +8,8 @@ use Rattle.std.specs.Char.{is_ascii_digit, to_ascii_uppercase as up}
 use Rattle.std.specs.Prelude.{ℤ}
 use Rattle.std.specs.Str.Parse.{signed_digits_value}
 use Rattle.lisp_data.specs.Atoms.{Shape, Start, Sign, Whole, Slash, Ratio, Bare, Pointed, Part, Exponent, ExponentSign, Power, NoNumber, Leaf, Integer, Named, Point, Wrong, is_delimiter, in_atom, is_sign, is_exponent, grown, after_digit, after_other, shape_of, is_odd, integer, is_narrow, symbol, shaped, worded, leaf}
-use Rattle.lisp_data.specs.SymbolText.{NamesSymbol, IsSymbolText}
+use Rattle.std.specs.Cmp.Lexicographic.{bytes_decides}
+use Rattle.lisp_data.specs.SymbolText.{NamesSymbol, IsSymbolText, is_named, is_symbol_text}
 
 same-byte : (b k : ℕ) → k < 65 → nat_eq (up b) k ≡ nat_eq b k
 same-byte b k h = grind (arith, nat_tests)
@@ -181,3 +182,25 @@ named-nonempty [] s e h = let empty = h.symbol in cc
 named-nonempty (b ∷ t) s e h = absurd (omega arith)
 
 pub ruleset symbols = (named-is, names_itself, named-nonempty)
+
+named-leaf : (l : Leaf) (s : List ℕ) → is_named l s ≡ true → l ≡ Named s
+named-leaf (Integer z) s h = cc
+named-leaf (Named text) s h = ap Named ((bytes_decides text s).0 h)
+named-leaf Point s h = cc
+named-leaf (Wrong code place) s h = cc
+
+-- the test of a symbol's text is right
+pub tested-text : (s : List ℕ) → is_symbol_text s ≡ true → IsSymbolText s
+unfolding is_symbol_text
+tested-text s h = record { atom = and-left (list_all in_atom s) (is_named (leaf false s) s) h; symbol = named-leaf (leaf false s) s (and-right (list_all in_atom s) (is_named (leaf false s) s) h) }
+  where
+    and-left : (a c : Bool) → (a && c) ≡ true → a ≡ true
+    and-left true c e = refl
+    and-left false c e = e
+
+    and-right : (a c : Bool) → (a && c) ≡ true → c ≡ true
+    and-right true c e = e
+    and-right false c e = cc
+
+pub tested-same : (t s : List ℕ) → t ≡ s → is_symbol_text s ≡ true → IsSymbolText t
+tested-same t s e h = subst IsSymbolText (sym e) (tested-text s h)

@@ -1,5 +1,5 @@
 -- What the code finds of an atom.
-use Rattle.std.specs.Prelude.{ℕ, ◌≤◌, List, length, map}
+use Rattle.std.specs.Prelude.{ℕ, ◌≤◌, List, map}
 use Rattle.std.specs.Char.{to_ascii_uppercase}
 use Rattle.lisp_data.specs.Atoms as a
 use Rattle.lisp_data.specs.Atoms.{Leaf}

@@ -7,3 +7,4 @@ pub mod ValueView
 pub mod ValueFalls
 pub mod Datum
 pub mod FormView
+pub mod Details

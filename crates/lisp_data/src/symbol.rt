@@ -1,9 +1,9 @@
-ghost use Rattle.std.specs.Prelude.{◌≡◌, ◌↔◌, List, ℕ, map, codes, IsTrue, IsFalse, IfOk};
+ghost use Rattle.std.specs.Prelude.{◌≡◌, ◌↔◌, true, List, ℕ, map, codes, IsTrue, IsFalse, IfOk};
 ghost use Rattle.std.specs.Char.{to_ascii_uppercase};
 ghost use Rattle.std.specs.List.{list_all};
 ghost use Rattle.lisp_data.specs.Atoms as spec;
 ghost use Rattle.std.specs.Str.{bytes_eq};
-ghost use Rattle.lisp_data.specs.SymbolText.{IsSymbolText, NamesSymbol, SaysNew};
+ghost use Rattle.lisp_data.specs.SymbolText.{IsSymbolText, NamesSymbol, SaysNew, is_symbol_text};
 
 use crate::atom::{Atom, in_atom};
 use lists::{Memory, Share};
@@ -74,12 +74,38 @@ impl Symbol {
         if !names_symbol(text) {
             return Err(SymbolError::BadText);
         }
+        match Symbol::of_atom(alloc, text) {
+            Ok(symbol) => Ok(symbol),
+            Err(Memory) => Err(SymbolError::Memory),
+        }
+    }
+
+    /// The symbol of an atom that is known to be one: its letters turn to upper case.
+    #[tactic(auto, using(crate::proofs::Uppercase::symbols))]
+    pub fn of_atom(alloc: Global, text: &str) -> Result<Symbol, Memory>
+        requires { NamesSymbol text.now (map to_ascii_uppercase text.now) }
+        ensures { IfOk result (λ s. s ≡ map to_ascii_uppercase text.now) }
+    {
         match text.to_ascii_uppercase(alloc) {
             Ok(upper) => match Rc::new(alloc, upper) {
                 Ok(text) => Ok(Symbol { text }),
-                Err(_) => Err(SymbolError::Memory),
+                Err(_) => Err(Memory),
             },
-            Err(_) => Err(SymbolError::Memory),
+            Err(_) => Err(Memory),
+        }
+    }
+
+    /// The symbol of a text that is known to be a symbol's, in upper case.
+    pub fn named(alloc: Global, text: &str) -> Result<Symbol, Memory>
+        requires { is_symbol_text text.now ≡ true }
+        ensures { IfOk result (λ s. s ≡ text.now) }
+    {
+        match String::from_str(alloc, text) {
+            Ok(text) => match Rc::new(alloc, text) {
+                Ok(text) => Ok(Symbol { text }),
+                Err(_) => Err(Memory),
+            },
+            Err(_) => Err(Memory),
         }
     }
 

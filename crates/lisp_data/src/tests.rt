@@ -12,8 +12,36 @@ fn symbols(rt: HostRuntime) -> Result<(), Fail> {
     let name = symbol(rt.alloc(), "car-dup")?;
     assert_eq!(rt; name.text(), "CAR-DUP");
     assert!(rt; name.same(&name.share()?));
+    assert!(rt; name.same(&Share::share(&name)?));
     for text in ["", "a b", "12", "1/2", "a:b", "."] {
         assert!(rt; Symbol::new(rt.alloc(), text).is_err(), "in {text}");
+    }
+    Ok(())
+}
+
+#[tactic(auto, unfolding(crate::specs::SymbolText::is_symbol_text, crate::specs::Atoms::leaf, crate::specs::Atoms::in_atom, crate::specs::Atoms::is_delimiter, crate::specs::Atoms::is_sign, crate::specs::Atoms::is_exponent))]
+fn plus(alloc: Global) -> Result<Symbol, Memory> {
+    Symbol::named(alloc, "BINARY-+")
+}
+
+#[test]
+fn details(rt: HostRuntime) -> Result<(), Fail> {
+    let alloc = rt.alloc();
+    let details: [(Detail, &[u8]); 5] = [
+        (Detail::Absent, b""),
+        (Detail::Name(plus(alloc)?), b"BINARY-+"),
+        (
+            Detail::Word(Text::from_slice(alloc, b"formals")?),
+            b"formals",
+        ),
+        (Detail::Word(Text::from_slice(alloc, b"\xff")?), b"\xff"),
+        (Detail::Number(1048576), b"1048576"),
+    ];
+    for (detail, text) in details {
+        let detail = detail.copy(alloc)?;
+        let mut printed = Text::new(alloc);
+        detail.write(alloc, &mut printed)?;
+        assert!(rt; printed.as_slice() == text);
     }
     Ok(())
 }

@@ -1,9 +1,9 @@
 -- What is written is read again.
-use Rattle.std.proofs.Common.{◌≡◌, ℕ, zero, suc, ◌+◌, ◌-◌, ◌<◌, ◌≤◌, Bool, true, false, cond, not, ◌&&◌, ◌||◌, nat_eq, nat_lt, Option, Some, None, List, [], ◌∷◌, ◌++◌, length, take, drop, refl, ap, sym, subst, ◌∙◌, arith, append_assoc, length-append}
-use Rattle.std.specs.Prelude.{ℤ, max, codes, bytes_eq}
+use Rattle.std.proofs.Common.{◌≡◌, ℕ, zero, suc, ◌+◌, ◌-◌, ◌<◌, ◌≤◌, Bool, true, false, cond, ◌&&◌, ◌||◌, nat_eq, nat_lt, Some, None, List, [], ◌∷◌, ◌++◌, length, take, drop, refl, ap, sym, subst, ◌∙◌, arith, append_assoc, length-append}
+use Rattle.std.specs.Prelude.{ℤ, codes, bytes_eq}
 use Rattle.std.proofs.lemmas.Bool.Decides.{nat_tests}
 use Rattle.std.proofs.lemmas.List.{take_at, drop_at, append-nil, drop_all}
-use Rattle.std.specs.List.{list_all, prefix_len, position}
+use Rattle.std.specs.List.{list_all, position}
 use Rattle.std.specs.Cmp.Lexicographic.{bytes_decides}
 use Rattle.std.specs.Fmt.{signed_decimal}
 use Rattle.lisp_data.specs.Datum.{Datum, IntForm, SymForm, TextForm, PairForm, nil_form}
@@ -12,15 +12,16 @@ use Rattle.lisp_data.specs.Atoms.{Leaf, Integer, Named, Point, Wrong, in_atom, i
 use Rattle.lisp_data.specs.SymbolText.{IsSymbolText}
 use Rattle.lisp_reader.specs.Spans as s
 use Rattle.lisp_reader.specs.Spans.{Front, Nothing, Gap, EndlessGap, Open, Close, Quote, Text, EndlessText, Atom, Stray, run, later, string, unescaped, escapes, is_blank, opens, opens_block, front, begins, is_gap, gaps_from, gaps, behind}
-use Rattle.lisp_reader.specs.Grammar.{Read, Got, Bad, shift, mapped, and_then, Kind, Closes, Points, Item, leaf_at, leaf_read, leaf_kind, one_by, kind_of, kind, closing_by, closing, last_by, last, items, form, next_form, before, book, parse, book_of}
+use Rattle.lisp_reader.specs.Grammar.{Read, Got, Bad, shift, mapped, and_then, quote_form, Points, Item, leaf_at, leaf_read, leaf_kind, one_by, kind_of, kind, closing_by, closing, last_by, last, items, form, next_form, before, book, parse}
 use Rattle.lisp_data.specs.Values.{Val}
 use Rattle.lisp_data.specs.Values as v
 use Rattle.lisp_reader.specs.FormValue.{has_text, value}
 use Rattle.lisp_reader.specs.Printed.{escaped, form_text, rest_text, nesting, datum_of, IsPrintable, IsReadAgain, IsValueAgain}
-use Rattle.lisp_reader.proofs.Pieces.{later-later, string-first, gaps-none}
+use Rattle.lisp_reader.specs.Texts.{IsText, integer, symbol, string as string_of, quoted, list, IsRestText, end, last as last_of, next, TextsAreRead}
+use Rattle.lisp_reader.proofs.Pieces.{string-first, gaps-none}
 use Rattle.lisp_reader.proofs.Leaves.{plain-first}
 use Rattle.lisp_reader.proofs.Numerals.{signed-leaf, signed-atom}
-use Rattle.lisp_reader.proofs.Steps.{shift-shift, shift-zero, list_in, mark_in, form-one, form-at}
+use Rattle.lisp_reader.proofs.Steps.{shift-zero, list_in, mark_in, form-one, form-at}
 use Rattle.lisp_reader.proofs.Items.{items-close, items-points, items-item}
 use Rattle.lisp_reader.proofs.Book.{book-got}
 
@@ -142,8 +143,8 @@ leaf-item true (Named t) d r = refl
 leaf-item true Point d r = let read : Bad 4 0 ≡ Got d 0 = r 0 in cc
 leaf-item true (Wrong c n) d r = refl
 
-word-read : (text : List ℕ) (d : Datum) (l : Leaf) → IsWord text d l → IsRead text d 0
-word-read text d l w =
+word-read : (text : List ℕ) (d : Datum) (l : Leaf) (k : ℕ) → IsWord text d l → IsRead text d k
+word-read text d l k w =
     let b = w.byte in
     let t = w.rest in
     let whole : list_all in_atom (b ∷ t) ≡ true = ap (list_all in_atom) (sym w.split) ∙ w.atom in
@@ -205,8 +206,8 @@ unfolding front opens_block opens is_blank
 string-front [] = refl
 string-front (c ∷ t) = refl
 
-text-read : (x : List ℕ) → IsRead (34 ∷ escaped x ++ 34 ∷ []) (TextForm x) 0
-text-read x =
+string-read : (x : List ℕ) (k : ℕ) → IsRead (34 ∷ escaped x ++ 34 ∷ []) (TextForm x) k
+string-read x k =
     let e = escaped x in
     let here : (r : List ℕ) → front ((34 ∷ e ++ 34 ∷ []) ++ r) ≡ Text (length e + 1) = λ r.
     string-front ((e ++ 34 ∷ []) ++ r) ∙ ap (λ y. s.text (string y)) (append_assoc e (34 ∷ []) r) ∙ ap s.text (string-escaped x r) in
@@ -239,17 +240,17 @@ blank-form inside depth u h =
 blank-kind : (some : Bool) (u : List ℕ) → gaps u ≡ 0 → kind false some (32 ∷ u) ≡ kind_of false some u (front u)
 blank-kind some u h = ap (λ n. kind_of false some (drop n (32 ∷ u)) (front (drop n (32 ∷ u)))) (blank-gaps u h)
 
--- the rest of a list is read behind its items
+-- the rest of a list is read behind its items, where so many lists and quotes more may be open in it
 record IsRest (text : List ℕ) (d : Datum) (k : ℕ) : Type 0 where
   long : 0 < length text
   ends : (r : List ℕ) → Ends (text ++ r)
-  rest : (r : List ℕ) (depth : ℕ) → k ≤ depth + 1 → items false (form false true depth) true 0 (text ++ r) ≡ Got d (length text - 1)
+  rest : (r : List ℕ) (depth : ℕ) → k ≤ depth → items false (form false true depth) true 0 (text ++ r) ≡ Got d (length text - 1)
 
 -- one item, and the rest behind it
-item-rest : (x y : List ℕ) (a d : Datum) (k m : ℕ) → IsRead x a k → IsRest y d m → (some : Bool) (t r : List ℕ) (depth gap : ℕ) →
-    kind false some t ≡ Item → form false true depth t ≡ Got a (gap + (length x - 1)) → drop (gap + length x) t ≡ y ++ r → gap + length x < length t → m ≤ depth + 1 →
+item-rest : (x y : List ℕ) (a d : Datum) (k : ℕ) → IsRead x a k → IsRest y d k → (some : Bool) (t r : List ℕ) (depth gap : ℕ) →
+    kind false some t ≡ Item → form false true depth t ≡ Got a (gap + (length x - 1)) → drop (gap + length x) t ≡ y ++ r → gap + length x < length t → k ≤ depth →
     items false (form false true depth) some 0 t ≡ Got (PairForm a d) (gap + length x + (length y - 1))
-item-rest x y a d k m xs ys some t r depth gap i f b l h =
+item-rest x y a d k xs ys some t r depth gap i f b l h =
     let n = gap + (length x - 1) in
     let next : n + 1 ≡ gap + length x = omega (arith, xs.long) in
     let rest : List ℕ → Read = items false (form false true depth) true 0 in
@@ -271,37 +272,37 @@ close-front (c ∷ t) = refl
 plain-kind : (some : Bool) (u : List ℕ) → gaps u ≡ 0 → kind false some u ≡ kind_of false some u (front u)
 plain-kind some u h = ap (λ n. kind_of false some (drop n u) (front (drop n u))) h
 
-list-items : (x y r : List ℕ) (a d : Datum) (k m depth : ℕ) → IsRead x a k → IsRest y d m → k ≤ depth → m ≤ depth + 1 →
+list-items : (x y r : List ℕ) (a d : Datum) (k depth : ℕ) → IsRead x a k → IsRest y d k → k ≤ depth →
     items false (form false true depth) false 0 ((x ++ y) ++ r) ≡ Got (PairForm a d) (length x + (length y - 1))
-list-items x y r a d k m depth xs ys h l =
+list-items x y r a d k depth xs ys h =
     let u = x ++ (y ++ r) in
     let e = ys.ends r in
     let none = gaps-none u (xs.gapless (y ++ r) e) in
     let zero_more : 0 + (length x - 1) ≡ length x - 1 = omega arith in
     let here : 0 + length x ≡ length x = omega arith in
     ap (λ t. items false (form false true depth) false 0 t) (append_assoc x y r)
-    ∙ item-rest x y a d k m xs ys false u r depth 0 (plain-kind false u none ∙ xs.item (y ++ r) e false)
+    ∙ item-rest x y a d k xs ys false u r depth 0 (plain-kind false u none ∙ xs.item (y ++ r) e false)
     (xs.read (y ++ r) e true depth h ∙ ap (Got a) (sym zero_more)) (ap (λ n. drop n u) here ∙ drop_at x (y ++ r) (length x) refl)
-    (omega (arith, length-append x (y ++ r), length-append y r, ys.long)) l
+    (omega (arith, length-append x (y ++ r), length-append y r, ys.long)) h
     ∙ ap (λ n. Got (PairForm a d) (n + (length y - 1))) here
 
-list-form : (x y r : List ℕ) (a d : Datum) (k m : ℕ) → IsRead x a k → IsRest y d m → (inside : Bool) (depth : ℕ) → max (k + 1) m ≤ depth →
+list-form : (x y r : List ℕ) (a d : Datum) (k : ℕ) → IsRead x a k → IsRest y d k → (inside : Bool) (depth : ℕ) → suc k ≤ depth →
     form false inside depth (40 ∷ (x ++ y) ++ r) ≡ Got (PairForm a d) (length x + length y)
-list-form x y r a d k m xs ys inside zero h = absurd (omega arith)
-list-form x y r a d k m xs ys inside (suc depth) h =
+list-form x y r a d k xs ys inside zero h = absurd (omega arith)
+list-form x y r a d k xs ys inside (suc depth) h =
     let last : 1 + (length x + (length y - 1)) ≡ length x + length y = omega (arith, ys.long) in
     let t = 40 ∷ (x ++ y) ++ r in
     form-at false inside (suc depth) t Open (gaps-none t (ap is_gap (open-front ((x ++ y) ++ r)))) (open-front ((x ++ y) ++ r))
-    ∙ ap (shift 1) (list-items x y r a d k m depth xs ys (omega arith) (omega arith)) ∙ ap (Got (PairForm a d)) last
+    ∙ ap (shift 1) (list-items x y r a d k depth xs ys (omega arith)) ∙ ap (Got (PairForm a d)) last
 
-list-read : (x y : List ℕ) (a d : Datum) (k m : ℕ) → IsRead x a k → IsRest y d m → IsRead (40 ∷ x ++ y) (PairForm a d) (max (k + 1) m)
-list-read x y a d k m xs ys =
+list-read : (x y : List ℕ) (a d : Datum) (k : ℕ) → IsRead x a k → IsRest y d k → IsRead (40 ∷ x ++ y) (PairForm a d) (suc k)
+list-read x y a d k xs ys =
     let last : length x + length y ≡ length (40 ∷ x ++ y) - 1 = omega (arith, length-append x y) in
     record {
       long = omega arith;
       gapless = λ r e. ap is_gap (open-front ((x ++ y) ++ r));
       item = λ r e some. ap (kind_of false some ((40 ∷ x ++ y) ++ r)) (open-front ((x ++ y) ++ r));
-      read = λ r e inside depth h. list-form x y r a d k m xs ys inside depth h ∙ ap (Got (PairForm a d)) last;
+      read = λ r e inside depth h. list-form x y r a d k xs ys inside depth h ∙ ap (Got (PairForm a d)) last;
     }
 
 blank-ends : in_atom 32 ≡ false
@@ -312,8 +313,8 @@ close-ends : in_atom 41 ≡ false
 unfolding in_atom is_delimiter
 close-ends = refl
 
-pair-rest : (x y : List ℕ) (a d : Datum) (k m : ℕ) → IsRead x a k → IsRest y d m → IsRest (32 ∷ x ++ y) (PairForm a d) (max (k + 1) m)
-pair-rest x y a d k m xs ys =
+pair-rest : (x y : List ℕ) (a d : Datum) (k : ℕ) → IsRead x a k → IsRest y d k → IsRest (32 ∷ x ++ y) (PairForm a d) k
+pair-rest x y a d k xs ys =
     let last : 1 + length x + (length y - 1) ≡ length (32 ∷ x ++ y) - 1 = omega (arith, length-append x y, ys.long) in
     record {
       long = omega arith;
@@ -324,18 +325,18 @@ pair-rest x y a d k m xs ys =
           let none = gaps-none u (xs.gapless (y ++ r) e) in
           let next : 1 + length x ≡ suc (length x) = omega arith in
           ap (λ t. items false (form false true depth) true 0 (32 ∷ t)) (append_assoc x y r)
-          ∙ item-rest x y a d k m xs ys true (32 ∷ u) r depth 1 (blank-kind true u none ∙ xs.item (y ++ r) e true)
-          (blank-form true depth u none ∙ ap (shift 1) (xs.read (y ++ r) e true depth (omega arith)))
+          ∙ item-rest x y a d k xs ys true (32 ∷ u) r depth 1 (blank-kind true u none ∙ xs.item (y ++ r) e true)
+          (blank-form true depth u none ∙ ap (shift 1) (xs.read (y ++ r) e true depth h))
           (ap (λ n. drop n (32 ∷ u)) next ∙ drop_at x (y ++ r) (length x) refl)
-          (omega (arith, length-append x (y ++ r), length-append y r, ys.long)) (omega arith)
+          (omega (arith, length-append x (y ++ r), length-append y r, ys.long)) h
           ∙ ap (Got (PairForm a d)) last;
     }
 
 close-gaps : (r : List ℕ) → gaps (41 ∷ r) ≡ 0
 close-gaps r = gaps-none (41 ∷ r) (ap is_gap (close-front r))
 
-nil-rest : IsRest (41 ∷ []) nil_form 0
-nil-rest = record {
+nil-rest : (k : ℕ) → IsRest (41 ∷ []) nil_form k
+nil-rest k = record {
   long = omega arith;
   ends = λ r. close-ends;
   rest = λ r depth h. items-close false (form false true depth) true (41 ∷ r) (plain-kind true (41 ∷ r) (close-gaps r) ∙ ap (kind_of false true (41 ∷ r)) (close-front r)) ∙ ap (Got nil_form) (close-gaps r);
@@ -354,12 +355,12 @@ close-here d r =
     let by : List ℕ → Read = λ t. closing_by false d t (front t) in
     ap (λ n. shift n (by (drop n (41 ∷ r)))) (close-gaps r) ∙ shift-zero _ ∙ ap (closing_by false d (41 ∷ r)) (close-front r)
 
-last-read : (x r : List ℕ) (d : Datum) (depth : ℕ) → IsRead x d 0 → last false (form false true depth) (32 ∷ x ++ 41 ∷ r) ≡ Got d (length x + 1)
-last-read x r d depth xs =
+last-read : (x r : List ℕ) (d : Datum) (k depth : ℕ) → IsRead x d k → k ≤ depth → last false (form false true depth) (32 ∷ x ++ 41 ∷ r) ≡ Got d (length x + 1)
+last-read x r d k depth xs h =
     let w = x ++ 41 ∷ r in
     let f : List ℕ → Read = form false true depth in
     let none = gaps-none w (xs.gapless (41 ∷ r) close-ends) in
-    let read : f (32 ∷ w) ≡ Got d (1 + (length x - 1)) = blank-form true depth w none ∙ ap (shift 1) (xs.read (41 ∷ r) close-ends true depth (omega arith)) in
+    let read : f (32 ∷ w) ≡ Got d (1 + (length x - 1)) = blank-form true depth w none ∙ ap (shift 1) (xs.read (41 ∷ r) close-ends true depth h) in
     let n = 1 + (length x - 1) in
     let next : n + 1 ≡ suc (length x) = omega (arith, xs.long) in
     let end : n + 1 + 0 ≡ length x + 1 = omega (arith, xs.long) in
@@ -369,8 +370,8 @@ last-read x r d depth xs =
     ∙ ap (λ t. shift (n + 1) (closing false d t)) (drop_at x (41 ∷ r) (length x) refl)
     ∙ ap (shift (n + 1)) (close-here d r) ∙ ap (Got d) end
 
-point-rest : (x : List ℕ) (d : Datum) → IsRead x d 0 → IsRest (codes " . " ++ x ++ 41 ∷ []) d 0
-point-rest x d xs =
+point-rest : (x : List ℕ) (d : Datum) (k : ℕ) → IsRead x d k → IsRest (codes " . " ++ x ++ 41 ∷ []) d k
+point-rest x d k xs =
     let last_place : 2 + (length x + 1) ≡ length (codes " . " ++ x ++ 41 ∷ []) - 1 = omega (arith, length-append x (41 ∷ [])) in
     record {
       long = omega arith;
@@ -383,30 +384,63 @@ point-rest x d xs =
           ap (λ t. items false f true 0 (32 ∷ 46 ∷ 32 ∷ t)) (append_assoc x (41 ∷ []) r)
           ∙ items-points false f true (32 ∷ u) (blank-kind true u (gaps-none u (ap is_gap (point-front w))) ∙ ap (kind_of false true u) (point-front w) ∙ point-kind w)
           ∙ ap (λ n. shift (n + 1) (last false f (drop (n + 1) (32 ∷ u)))) one
-          ∙ ap (shift 2) (last-read x r d depth xs) ∙ ap (Got d) last_place;
+          ∙ ap (shift 2) (last-read x r d k depth xs h) ∙ ap (Got d) last_place;
     }
 
--- a form, by itself and as the end of a list
-record IsAgain (d : Datum) : Type 0 where
-  whole : IsRead (form_text d) d (nesting d)
-  rest : IsRest (rest_text d) d (nesting d)
+quote-front : (t : List ℕ) → front (39 ∷ t) ≡ Quote
+unfolding front opens_block opens is_blank
+quote-front [] = refl
+quote-front (c ∷ t) = refl
 
-symbol-rest : (t : List ℕ) → IsRead t (SymForm t) 0 → (b : Bool) → bytes_eq t (codes "NIL") ≡ b → IsRest (cond b (41 ∷ []) (codes " . " ++ t ++ 41 ∷ [])) (SymForm t) 0
-symbol-rest t w true e = let same = (bytes_decides t (codes "NIL")).0 e in subst (λ (x : List ℕ). IsRest (41 ∷ []) (SymForm x) 0) (sym same) nil-rest
-symbol-rest t w false e = point-rest t (SymForm t) w
+quote-read_at : (t r : List ℕ) (f : Datum) (k : ℕ) → IsRead t f k → Ends r → (inside : Bool) (depth : ℕ) → suc k ≤ depth →
+    form false inside depth (39 ∷ t ++ r) ≡ Got (quote_form f) (length (39 ∷ t) - 1)
+quote-read_at t r f k w e inside zero h = absurd (omega arith)
+quote-read_at t r f k w e inside (suc depth) h =
+    let last : 1 + (length t - 1) ≡ length (39 ∷ t) - 1 = omega (arith, w.long) in
+    form-at false inside (suc depth) (39 ∷ t ++ r) Quote (gaps-none (39 ∷ t ++ r) (ap is_gap (quote-front (t ++ r)))) (quote-front (t ++ r))
+    ∙ ap (λ q. shift 1 (mapped quote_form q)) (w.read r e true depth (omega arith)) ∙ ap (Got (quote_form f)) last
 
-again : (d : Datum) → IsPrintable d → IsAgain d
-unfolding form_text rest_text
-again (IntForm z) p = let w = word-read _ _ _ (integer-word z p) in record { whole = w; rest = point-rest (signed_decimal z) (IntForm z) w }
-again (SymForm t) p = let w = word-read _ _ _ (symbol-word t p) in record { whole = w; rest = symbol-rest t w (bytes_eq t (codes "NIL")) refl }
-again (TextForm t) p = record { whole = text-read t; rest = point-rest _ (TextForm t) (text-read t) }
-again (PairForm a d) p =
-    let first = again a p.0 in
-    let more = again d p.1 in
-    record {
-      whole = list-read (form_text a) (rest_text d) a d (nesting a) (nesting d) first.whole more.rest;
-      rest = pair-rest (form_text a) (rest_text d) a d (nesting a) (nesting d) first.whole more.rest;
-    }
+quote-read : (t : List ℕ) (f : Datum) (k : ℕ) → IsRead t f k → IsRead (39 ∷ t) (quote_form f) (suc k)
+quote-read t f k w = record {
+  long = omega arith;
+  gapless = λ r e. ap is_gap (quote-front (t ++ r));
+  item = λ r e some. ap (kind_of false some (39 ∷ t ++ r)) (quote-front (t ++ r));
+  read = λ r e inside depth h. quote-read_at t r f k w e inside depth h;
+}
+
+mutual
+  text-read : {k : ℕ} {d : Datum} {t : List ℕ} → IsText k d t → IsRead t d k
+  text-read (integer z p) = word-read _ _ _ _ (integer-word z p)
+  text-read (symbol s p) = word-read _ _ _ _ (symbol-word s p)
+  text-read (string_of s) = string-read s _
+  text-read (quoted w) = quote-read _ _ _ (text-read w)
+  text-read (list v w) = list-read _ _ _ _ _ (text-read v) (rest-read w)
+
+  rest-read : {k : ℕ} {d : Datum} {t : List ℕ} → IsRestText k d t → IsRest t d k
+  rest-read end = nil-rest _
+  rest-read (last_of w) = point-rest _ _ _ (text-read w)
+  rest-read (next v w) = pair-rest _ _ _ _ _ (text-read v) (rest-read w)
+
+symbol-rest : (t : List ℕ) (k : ℕ) → IsSymbolText t → (b : Bool) → bytes_eq t (codes "NIL") ≡ b → IsRestText k (SymForm t) (cond b (41 ∷ []) (codes " . " ++ t ++ 41 ∷ []))
+symbol-rest t k p true e = let same = (bytes_decides t (codes "NIL")).0 e in subst (λ (x : List ℕ). IsRestText k (SymForm x) (41 ∷ [])) (sym same) end
+symbol-rest t k p false e = last_of (symbol t p)
+
+mutual
+  unfolding form_text rest_text
+
+  -- what is printed of a form is a text of it
+  pub printed-text : (d : Datum) (k : ℕ) → IsPrintable d → nesting d ≤ k → IsText k d (form_text d)
+  printed-text (IntForm z) k p h = integer z p
+  printed-text (SymForm t) k p h = symbol t p
+  printed-text (TextForm t) k p h = string_of t
+  printed-text (PairForm a d) zero p h = absurd (omega arith)
+  printed-text (PairForm a d) (suc k) p h = list (printed-text a k p.0 (omega arith)) (printed-rest d k p.1 (omega arith))
+
+  printed-rest : (d : Datum) (k : ℕ) → IsPrintable d → nesting d ≤ suc k → IsRestText k d (rest_text d)
+  printed-rest (IntForm z) k p h = last_of (integer z p)
+  printed-rest (SymForm t) k p h = symbol-rest t k p (bytes_eq t (codes "NIL")) refl
+  printed-rest (TextForm t) k p h = last_of (string_of t)
+  printed-rest (PairForm a d) k p h = next (printed-text a k p.0 (omega arith)) (printed-rest d k p.1 (omega arith))
 
 and-false : (a : Bool) → (a && false) ≡ false
 and-false true = refl
@@ -416,12 +450,12 @@ book-end : (left place : ℕ) (t : List ℕ) → t ≡ [] → book false left pl
 unfolding book
 book-end left place t e = ap (book false left place 0) e
 
-whole-book : (t : List ℕ) (d : Datum) → IsRead t d (nesting d) → nesting d ≤ 200 → parse false t ≡ ((d, 0) ∷ [], None)
-whole-book t d w h =
+whole-book : (t : List ℕ) (d : Datum) → IsRead t d 200 → parse false t ≡ ((d, 0) ∷ [], None)
+whole-book t d w =
     let n = length t - 1 in
     let same : t ++ [] ≡ t = append-nil t in
     let none : gaps t ≡ 0 = gaps-none t (ap (λ x. is_gap (front x)) (sym same) ∙ w.gapless [] tt) in
-    let read : form false false 200 t ≡ Got d n = ap (form false false 200) (sym same) ∙ w.read [] tt false 200 h in
+    let read : form false false 200 t ≡ Got d n = ap (form false false 200) (sym same) ∙ w.read [] tt false 200 (omega arith) in
     let some : nat_eq (length (behind t)) 0 ≡ false =
     (let long : 0 < length (behind t) = omega (arith, ap (λ k. length (drop k t)) none, w.long) in grind (arith, nat_tests)) in
     let all : n + 1 ≡ length t = omega (arith, w.long) in
@@ -430,13 +464,15 @@ whole-book t d w h =
     ∙ ap (λ k. before false (d, 0 + k) (book false (10000 - 1) (0 + (n + 1)) 0 (drop (n + 1) t))) none
     ∙ ap (before false (d, 0)) (book-end (10000 - 1) (0 + (n + 1)) (drop (n + 1) t) (drop_all (n + 1) t (omega arith)))
 
--- the text of a form is read as that form
+-- each text of a form is read as that form
+pub texts-read : TextsAreRead
+texts-read d t w h =
+    let short : nat_lt 1048576 (length t) ≡ false = grind (arith, nat_tests) in
+    ap (λ c. cond c (parse true (take 1048576 t)) (parse false t)) short ∙ whole-book t d (text-read w)
+
+-- so is what is printed of it
 pub forms-again : (d : Datum) → IsPrintable d → IsReadAgain d
-forms-again d p = record {
-  read = λ h l.
-      let short : nat_lt 1048576 (length (form_text d)) ≡ false = grind (arith, nat_tests) in
-      ap (λ c. cond c (parse true (take 1048576 (form_text d))) (parse false (form_text d))) short ∙ whole-book (form_text d) d (again d p).whole h;
-}
+forms-again d p = record { read = λ h l. texts-read d (form_text d) (printed-text d 200 p h) l }
 
 no-text : (v : Val) → has_text (datum_of v) ≡ false
 no-text (v.Int z) = refl
@@ -453,3 +489,5 @@ pub values-again : (v : Val) → IsPrintable (datum_of v) → IsValueAgain v
 values-again x p = record { read = forms-again (datum_of x) p; plain = no-text x; value = same-value x }
 
 pub ruleset prints = (forms-again, values-again)
+
+pub ruleset texts = (texts-read, printed-text)

@@ -1,9 +1,9 @@
 -- A book from a place on.
-use Rattle.std.proofs.Common.{◌≡◌, ℕ, zero, suc, ◌+◌, ◌-◌, ◌<◌, ◌≤◌, Bool, true, false, cond, if◌then◌else◌, not, ◌&&◌, nat_eq, nat_lt, Option, Some, None, Err, List, [], ◌∷◌, ◌++◌, length, take, drop, refl, ap, sym, subst, ◌∙◌, arith, length-drop}
+use Rattle.std.proofs.Common.{◌≡◌, ℕ, zero, suc, ◌+◌, ◌-◌, ◌<◌, ◌≤◌, Bool, true, false, cond, if◌then◌else◌, ◌&&◌, nat_eq, nat_lt, Some, None, Err, List, [], ◌∷◌, length, drop, refl, ap, sym, subst, ◌∙◌, arith, length-drop}
 use Rattle.std.proofs.lemmas.List.{drop-drop}
 use Rattle.std.proofs.lemmas.Bool.Decides.{nat_tests}
 use Rattle.lisp_data.specs.Datum.{Datum}
-use Rattle.lisp_reader.specs.Spans.{Front, front, gaps_from, gaps, behind, begins}
+use Rattle.lisp_reader.specs.Spans.{front, gaps_from, gaps, behind, begins}
 use Rattle.lisp_reader.specs.TokenView.{seen, IsWithin}
 use Rattle.lisp_reader.specs.BookSteps.{SaysStep}
 use Rattle.lisp_reader.specs.declared.read.ReadError.{ReadError}

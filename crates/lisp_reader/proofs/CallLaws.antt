@@ -1,9 +1,8 @@
 -- Calls of a reader, one after the other.
-use Rattle.std.proofs.Common.{◌≡◌, ℕ, List, [], ◌∷◌, ◌++◌, Option, Some, None, Result, Ok, Err, refl, ap, sym, subst, ◌∙◌}
-use Rattle.lisp_data.specs.Datum.{Datum}
+use Rattle.std.proofs.Common.{◌≡◌, ℕ, List, [], ◌∷◌, Option, Some, None, Ok, Err, ap, sym, ◌∙◌}
 use Rattle.lisp_data.specs.FormView.{form_of}
-use Rattle.lisp_reader.specs.Answers.{Answers, SaysNext}
-use Rattle.lisp_reader.specs.Calls.{Answer, Run, found, EndsAs, AllEndAs, ReadsInOrder}
+use Rattle.lisp_reader.specs.Answers.{Answers}
+use Rattle.lisp_reader.specs.Calls.{Answer, Run, ReadsInOrder}
 use Rattle.lisp_reader.specs.declared.read.ReadError.TheVariants.{Refused, Memory}
 
 -- where nothing is left, nothing more comes

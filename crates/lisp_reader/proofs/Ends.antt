@@ -1,9 +1,9 @@
 -- How many forms a book has, and how one that goes on ends.
-use Rattle.std.proofs.Common.{◌≡◌, ◌≢◌, ℕ, zero, suc, ◌+◌, ◌-◌, ◌<◌, ◌≤◌, Bool, true, false, ◌&&◌, nat_eq, if◌then◌else◌, List, [], ◌∷◌, length, drop, Option, Some, None, refl, ap, sym, ◌∙◌, subst, arith}
+use Rattle.std.proofs.Common.{◌≡◌, ℕ, zero, suc, ◌+◌, ◌-◌, ◌≤◌, Bool, true, false, ◌&&◌, nat_eq, if◌then◌else◌, List, [], ◌∷◌, length, drop, Option, Some, None, refl, sym, subst, arith}
 use Rattle.lisp_data.specs.Datum.{Datum}
 use Rattle.lisp_data.specs.declared.fault.TheConstants.{TOO_DEEP, BOOK_TOO_LONG}
 use Rattle.lisp_reader.specs.Spans.{Front, Nothing, Gap, EndlessGap, Open, Close, Quote, Text, EndlessText, Atom, Stray, front, begins, gaps, behind}
-use Rattle.lisp_reader.specs.Grammar.{Read, Got, Bad, shift, one_by, one, items, quote_form, mapped, form, next_form, book_and, before, book, parse}
+use Rattle.lisp_reader.specs.Grammar.{Read, Got, Bad, shift, one_by, items, quote_form, mapped, form, next_form, book_and, before, book, parse}
 
 abbrev Books : Type 0
 Books = List (Datum × ℕ) × Option (ℕ × ℕ)

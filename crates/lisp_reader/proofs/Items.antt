@@ -1,12 +1,11 @@
 -- The rest of a list, item by item.
-use Rattle.std.proofs.Common.{◌≡◌, ℕ, zero, suc, ◌+◌, ◌-◌, ◌<◌, ◌≤◌, Bool, true, false, cond, if◌then◌else◌, ◌&&◌, nat_eq, nat_lt, Option, Some, None, Result, Ok, Err, List, [], ◌∷◌, ◌++◌, length, get_or, take, drop, refl, ap, sym, subst, ◌∙◌, arith, rules, inl, inr, ◌⊎◌, length-drop}
+use Rattle.std.proofs.Common.{◌≡◌, ℕ, zero, suc, ◌+◌, ◌-◌, ◌<◌, ◌≤◌, Bool, true, false, cond, nat_lt, Ok, Err, List, [], ◌∷◌, ◌++◌, length, drop, refl, ap, sym, ◌∙◌, arith, inl, inr, ◌⊎◌, length-drop}
 use Rattle.std.proofs.lemmas.List.{drop-drop}
 use Rattle.std.proofs.lemmas.Bool.Decides.{nat_tests}
-use Rattle.lisp_data.specs.declared.form.Form.{Form}
 use Rattle.lisp_data.specs.Datum.{Datum, PairForm, nil_form, chain}
 use Rattle.lisp_data.specs.Atoms as atoms
 use Rattle.lisp_data.specs.Atoms.{Leaf}
-use Rattle.lisp_reader.specs.Spans.{Front, Nothing, Gap, EndlessGap, Open, Close, Quote, Text, EndlessText, Atom, Stray, front, is_gap, gaps_from, gaps, behind}
+use Rattle.lisp_reader.specs.Spans.{front, gaps_from, gaps}
 use Rattle.lisp_reader.specs.TokenView.{seen}
 use Rattle.lisp_reader.specs.Says.{is_point, SaysRead, SaysPlace}
 use Rattle.lisp_reader.specs.Grammar.{Read, Got, Bad, shift, mapped, and_then, Kind, Closes, Points, Item, by_kind, at_end, leaf_kind, kind_of, kind, last_by, last, closing, items, form}
@@ -16,7 +15,7 @@ use Rattle.lisp_reader.specs.declared.read.ReadError.TheVariants as errors
 use Rattle.lisp_reader.specs.declared.token.Token.{Token}
 use Rattle.lisp_reader.specs.declared.token.Token.TheVariants as tokens
 use Rattle.lisp_reader.proofs.Steps.{shift-shift, shift-zero, shift-mapped, bad-here, seen-gap, token-gaps, behind-at, form-nil, form-behind, read-open, says-same}
-use Rattle.lisp_reader.proofs.Lists.{closing-mapped, close-mapped, closed-mapped, closed-bad}
+use Rattle.lisp_reader.proofs.Lists.{close-mapped, closed-mapped, closed-bad}
 
 module _ (more : Bool) where
   items-skip : (f : List ℕ → Read) (some : Bool) (skip : ℕ) (t : List ℕ) → items more f some skip t ≡ shift skip (items more f some 0 (drop skip t))

@@ -1,19 +1,17 @@
 -- The items of a list at a place, and where lists close.
-use Rattle.std.proofs.Common.{◌≡◌, ℕ, zero, suc, ◌+◌, ◌-◌, ◌<◌, ◌≤◌, Bool, true, false, cond, if◌then◌else◌, ◌&&◌, nat_eq, nat_lt, Option, Some, None, Result, Ok, Err, List, [], ◌∷◌, ◌++◌, length, get_or, take, drop, refl, ap, sym, subst, ◌∙◌, arith, length-drop}
-use Rattle.std.proofs.lemmas.List.{drop-drop}
-use Rattle.lisp_data.specs.declared.form.Form.{Form}
-use Rattle.lisp_data.specs.Datum.{Datum, PairForm, nil_form, chain}
+use Rattle.std.proofs.Common.{◌≡◌, ℕ, zero, suc, ◌+◌, ◌-◌, ◌<◌, ◌≤◌, Bool, true, false, cond, Result, List, length, take, drop, refl, ap, sym, subst, ◌∙◌, arith, length-drop}
+use Rattle.lisp_data.specs.Datum.{Datum, nil_form}
 use Rattle.lisp_data.specs.Atoms as atoms
 use Rattle.lisp_data.specs.Atoms.{Leaf, is_odd}
-use Rattle.lisp_reader.specs.Spans.{Front, Nothing, Gap, EndlessGap, Open, Close, Quote, Text, EndlessText, Atom, Stray, front, is_gap, gaps_from, gaps, behind}
+use Rattle.lisp_reader.specs.Spans.{Front, Nothing, Gap, EndlessGap, Open, Close, Quote, Text, EndlessText, Atom, Stray, front, gaps, behind}
 use Rattle.lisp_reader.specs.TokenView.{seen}
-use Rattle.lisp_reader.specs.Says.{SaysRead, SaysPlace}
-use Rattle.lisp_reader.specs.Grammar.{Read, Got, Bad, shift, mapped, and_then, Kind, Closes, Points, Item, by_kind, at_end, in_text, leaf_at, leaf_fault, closing_by, closing, leaf_kind, kind_of, kind, last_by, last, items, form}
+use Rattle.lisp_reader.specs.Says.{SaysPlace}
+use Rattle.lisp_reader.specs.Grammar.{Read, Got, Bad, shift, mapped, at_end, in_text, leaf_at, leaf_fault, closing_by, closing}
 use Rattle.lisp_reader.specs.Closes.{close, closed}
 use Rattle.lisp_reader.specs.declared.read.ReadError.{ReadError}
 use Rattle.lisp_reader.specs.declared.token.Token.{Token}
 use Rattle.lisp_reader.specs.declared.token.Token.TheVariants as tokens
-use Rattle.lisp_reader.proofs.Steps.{shift-shift, shift-zero, shift-mapped, bad-here, seen-gap, token-gaps, behind-at, form-nil, form-behind}
+use Rattle.lisp_reader.proofs.Steps.{shift-shift, shift-mapped, bad-here, behind-at}
 
 mapped-shift : (n : ℕ) (h : Datum → Datum) (r : Read) → mapped h (shift n r) ≡ shift n (mapped h r)
 mapped-shift n h r = sym (shift-mapped n h r)

@@ -1,5 +1,5 @@
 -- The decimal text of an integer is that integer, as an atom.
-use Rattle.std.proofs.Common.{◌≡◌, ℕ, zero, suc, ◌+◌, ◌-◌, ◌<◌, ◌≤◌, ◌^◌, Bool, true, false, cond, not, ◌&&◌, ◌||◌, nat_eq, nat_lt, Option, Some, None, List, [], ◌∷◌, length, drop, refl, ap, sym, subst, ◌∙◌, arith, ltb-true}
+use Rattle.std.proofs.Common.{◌≡◌, ℕ, suc, ◌+◌, ◌<◌, ◌^◌, Bool, true, false, cond, not, ◌&&◌, ◌||◌, nat_eq, nat_lt, Some, None, List, [], ◌∷◌, length, drop, refl, ap, ◌∙◌, arith, ltb-true}
 use Rattle.std.specs.Prelude.{ℤ, pos, negsuc, neg_ℤ}
 use Rattle.std.proofs.lemmas.Bool.Decides.{nat_tests}
 use Rattle.std.proofs.lemmas.Fmt.{decimal_is_IsNumeral_wide}
@@ -7,7 +7,7 @@ use Rattle.std.specs.List.{fold, list_all, position, prefix_len}
 use Rattle.std.specs.Char.{is_ascii_digit, digit_value}
 use Rattle.std.specs.Fmt.{decimal, signed_decimal}
 use Rattle.std.specs.Str.Parse.{AllDigits, IsNumeral, digits_value, signed_digits_value, without_leading_sign}
-use Rattle.lisp_data.specs.Atoms.{in_atom, is_delimiter, is_sign, is_narrow, Shape, Start, Sign, Whole, Leaf, Integer, Point, Wrong, grown, after_digit, after_other, shape_of, integer, shaped, worded, is_odd, leaf}
+use Rattle.lisp_data.specs.Atoms.{in_atom, is_delimiter, is_sign, is_narrow, Start, Sign, Whole, Integer, Point, Wrong, grown, after_other, shape_of, integer, shaped, worded, is_odd, leaf}
 
 digit-range : (b : ℕ) → digit_value b < 10 → is_ascii_digit b ≡ true
 digit-range b h = grind (arith, nat_tests)

@@ -4,8 +4,7 @@ use Rattle.std.proofs.lemmas.List.{drop-drop, take_rest, take_all}
 use Rattle.std.proofs.lemmas.Bool.Decides.{nat_tests}
 use native.Mathlib.Numerals.{unary_clauses}
 use Rattle.std.specs.List.{prefix_len}
-use Rattle.lisp_data.specs.Atoms.{in_atom}
-use Rattle.lisp_reader.specs.Spans.{run, line, opens, ends, later, block, string, opens_block, Front, Nothing, Gap, EndlessGap, Open, Close, Quote, Text, EndlessText, Atom, Stray, plain, comment, front, gap_after, gaps_from, gaps, is_gap}
+use Rattle.lisp_reader.specs.Spans.{opens, ends, later, block, string, opens_block, Front, Nothing, Gap, EndlessGap, Open, Close, Quote, Text, EndlessText, Atom, Stray, plain, comment, front, gap_after, gaps_from, gaps, is_gap}
 
 -- the bytes from a place on: the one there, and the rest
 pub drop-at : (xs : List ℕ) (i : ℕ) → i < length xs → drop i xs ≡ get_or xs i 0 ∷ drop (i + 1) xs

@@ -1,14 +1,13 @@
 -- Forms at a place.
-use Rattle.std.proofs.Common.{◌≡◌, ℕ, zero, suc, ◌+◌, ◌-◌, ◌<◌, ◌≤◌, Bool, true, false, cond, if◌then◌else◌, ◌&&◌, nat_eq, nat_lt, Option, Some, None, Result, Ok, Err, List, [], ◌∷◌, ◌++◌, length, get_or, take, drop, refl, ap, sym, subst, ◌∙◌, arith, length-drop}
+use Rattle.std.proofs.Common.{◌≡◌, ℕ, zero, suc, ◌+◌, ◌-◌, ◌<◌, ◌≤◌, Bool, true, false, nat_lt, Result, List, [], length, take, drop, refl, ap, sym, subst, ◌∙◌, arith, length-drop}
 use Rattle.std.proofs.lemmas.List.{drop-drop}
 use Rattle.std.proofs.lemmas.Bool.Decides.{nat_tests}
 use Rattle.lisp_data.specs.declared.form.Form.{Form}
-use Rattle.lisp_data.specs.Datum.{Datum, TextForm, PairForm, nil_form, chain}
-use Rattle.lisp_data.specs.Atoms.{Leaf, is_odd}
-use Rattle.lisp_reader.specs.Spans.{Front, Nothing, Gap, EndlessGap, Open, Close, Quote, Text, EndlessText, Atom, Stray, unescaped, front, is_gap, gaps_from, gaps, behind}
+use Rattle.lisp_data.specs.Datum.{Datum, TextForm}
+use Rattle.lisp_reader.specs.Spans.{Front, unescaped, front, is_gap, gaps_from, gaps, behind}
 use Rattle.lisp_reader.specs.TokenView.{seen}
-use Rattle.lisp_reader.specs.Says.{SaysRead, SaysPlace}
-use Rattle.lisp_reader.specs.Grammar.{Read, Got, Bad, shift, mapped, and_then, quote_form, Kind, Closes, Points, Item, by_kind, at_end, in_text, leaf_at, leaf_read, leaf_fault, one_by, one, closing_by, closing, leaf_kind, kind_of, kind, last_by, last, items, form}
+use Rattle.lisp_reader.specs.Says.{SaysRead}
+use Rattle.lisp_reader.specs.Grammar.{Read, Got, Bad, shift, mapped, quote_form, at_end, in_text, leaf_at, leaf_read, one_by, one, items, form}
 use Rattle.lisp_reader.specs.declared.read.ReadError.{ReadError}
 use Rattle.lisp_reader.specs.declared.token.Token.{Token}
 use Rattle.lisp_reader.specs.declared.token.Token.TheVariants as tokens

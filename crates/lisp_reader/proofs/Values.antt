@@ -1,13 +1,12 @@
 -- Texts and values of lists.
-use Rattle.std.proofs.Common.{◌≡◌, ℕ, zero, suc, ◌+◌, ◌<◌, ◌≤◌, Bool, true, false, cond, ◌||◌, Result, Ok, Err, List, [], ◌∷◌, length, get_or, map, take, drop, refl, ap, sym, subst, ◌∙◌, arith}
+use Rattle.std.proofs.Common.{◌≡◌, ℕ, zero, suc, ◌+◌, ◌<◌, ◌≤◌, Bool, true, false, ◌||◌, Result, Ok, Err, List, [], ◌∷◌, length, get_or, map, drop, refl, ap, sym, subst, ◌∙◌, arith}
 use Rattle.std.specs.List.{list_any}
 use native.Mathlib.Numerals.{unary_clauses}
-use Rattle.lisp_data.specs.Values.{Val, Pair, path, pairs, IsSmall}
+use Rattle.lisp_data.specs.Values.{Val, Pair, IsSmall}
 use Rattle.lisp_data.specs.declared.value.ValueError.{ValueError}
 use Rattle.lisp_data.specs.declared.value.ValueError.TheVariants.{TooLarge, NotAValue, Memory}
 use Rattle.lisp_data.specs.declared.value.Value.{Value}
-use Rattle.lisp_data.specs.ValueView.{val_of}
-use Rattle.lisp_data.specs.Datum.{Datum, PairForm, chain, nil_form}
+use Rattle.lisp_data.specs.Datum.{Datum, chain, nil_form}
 use Rattle.lisp_data.specs.FormView.{form_of}
 use Rattle.lisp_data.specs.declared.form.Form.{Form}
 use Rattle.lisp_reader.specs.FormValue.{has_text, value, value_before, SaysBuilt, SaysBefore}

@@ -8,5 +8,6 @@ pub mod Answers
 pub mod BookSteps
 pub mod FormValue
 pub mod Printed
+pub mod Texts
 pub mod Writes
 pub mod Calls

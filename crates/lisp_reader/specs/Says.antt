@@ -1,7 +1,7 @@
 -- What the reader's functions answer.
-use Rattle.std.specs.Prelude.{◌≡◌, ℕ, Bool, true, false, List, Result, Ok, Err}
+use Rattle.std.specs.Prelude.{◌≡◌, ℕ, Bool, true, false, Result, Ok, Err}
 use Rattle.lisp_data.specs.declared.form.Form.{Form}
-use Rattle.lisp_data.specs.Datum.{Datum, chain, nil_form}
+use Rattle.lisp_data.specs.Datum.{nil_form}
 use Rattle.lisp_data.specs.FormView.{form_of}
 use Rattle.lisp_data.specs.Atoms.{Leaf, Point}
 use Rattle.lisp_reader.specs.Grammar.{Read, Got, Bad}

@@ -6,6 +6,7 @@ ghost use Rattle.lisp_data.specs.Values.{Val};
 ghost use Rattle.lisp_reader.specs.Answers.{Answers};
 ghost use Rattle.lisp_reader.specs.Calls.{Answer, Run, ReadsInOrder};
 ghost use Rattle.lisp_reader.specs.Printed.{datum_of, IsPrintable, IsReadAgain, IsValueAgain};
+ghost use Rattle.lisp_reader.specs.Texts.{TextsAreRead, PrintsAreTexts};
 
 /// However a book is read call by call, the forms, their order and the end or first fault are the book's.
 #[tactic(auto, using(crate::proofs::CallLaws::calls))]
@@ -13,7 +14,19 @@ pub fn calls_read_in_order()
     ensures { (old : Answers) (rs : List Answer) (new : Answers) → Run old rs new → ReadsInOrder old new rs }
 {}
 
-/// The text of a form is read as that form.
+/// Each text of a form is read as that form: a list that begins with QUOTE may be written with a quote.
+#[tactic(auto, using(crate::proofs::Again::texts))]
+pub fn texts_are_read()
+    ensures { TextsAreRead }
+{}
+
+/// What is printed of a form is a text of it.
+#[tactic(auto, using(crate::proofs::Again::texts))]
+pub fn prints_are_texts()
+    ensures { PrintsAreTexts }
+{}
+
+/// What is printed of a form is read as that form.
 #[tactic(auto, using(crate::proofs::Again::prints))]
 pub fn forms_are_read_again()
     ensures { (d : Datum) → IsPrintable d → IsReadAgain d }

@@ -217,6 +217,7 @@ pub fn print_form(form: &Form, out: &mut Text) -> Result<(), Memory>
 #[tactic(auto, using(crate::proofs::Prints::cuts, crate::proofs::Again::prints))]
 pub fn print_value(value: &Value, out: &mut Text) -> Result<(), Memory>
     ensures ok { OnOk result (out.new ≡ out.old ++ value_text (val_of value.now)) }
+    ensures printable { OnOk result (IsPrintable (datum_of (val_of value.now))) }
     ensures again { OnOk result (IsValueAgain (val_of value.now)) }
     ensures err { OnErr result (out.new ≡ out.old) }
 {

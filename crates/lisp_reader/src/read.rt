@@ -18,7 +18,7 @@ ghost use Rattle.lisp_reader.specs.KindView.{seen_kind};
 use crate::token::{Token, next_token};
 use lisp_data::{
     Atom, BAD_BYTE, BAD_DOT, BOOK_TOO_LONG, Bytes, Form, Forms, Memory, STRAY_CLOSE, Symbol,
-    SymbolError, TOO_DEEP, UNCLOSED_LIST, UNCLOSED_TEXT,
+    TOO_DEEP, UNCLOSED_LIST, UNCLOSED_TEXT,
 };
 use std::alloc::Global;
 
@@ -107,11 +107,8 @@ fn symbol(alloc: Global, text: &str) -> Result<Form, Memory>
     ensures form { IfOk result (λ f. form_of f ≡ SymForm (map to_ascii_uppercase text.now)) }
     ensures proper { IfOk result IsProper }
 {
-    match Symbol::new(alloc, text) {
-        Ok(symbol) => Ok(Form::Sym(symbol)),
-        Err(SymbolError::BadText) => unreachable!(),
-        Err(SymbolError::Memory) => Err(Memory),
-    }
+    let symbol = Symbol::of_atom(alloc, text)?;
+    Ok(Form::Sym(symbol))
 }
 
 /// The list of QUOTE and a form.
@@ -195,6 +192,13 @@ impl<'a> Input<'a> {
         } else {
             UNCLOSED_TEXT
         })
+    }
+
+    /// The end of the bytes in a list, or where a quote waits for its form.
+    fn unclosed(&self, place: usize) -> ReadError
+        ensures { result ≡ ReadError.Refused (spec.at_end self.now.more UNCLOSED_LIST) place }
+    {
+        refused(self.end_code(UNCLOSED_LIST), place)
     }
 
     /// What the atom at a place is, whose last byte is the n-th.
@@ -288,7 +292,7 @@ impl<'a> Input<'a> {
         let (token, place) = next_token(self.bytes, at);
         match token {
             Token::Close => Ok(place),
-            Token::Nothing => Err(refused(self.end_code(UNCLOSED_LIST), place)),
+            Token::Nothing => Err(self.unclosed(place)),
             Token::EndlessGap => Err(refused(self.text_code(1), self.bytes.len())),
             Token::Stray => Err(refused(BAD_BYTE, place)),
             Token::Atom(n) => Err(self.second_atom(place, n)),
@@ -353,7 +357,7 @@ impl<'a> Input<'a> {
         ensures within { IfOk result (λ x. (place ≤ x.1) × (x.1 < length self.now.bytes.now)) }
     {
         match token {
-            Token::Nothing => Err(refused(self.end_code(UNCLOSED_LIST), place)),
+            Token::Nothing => Err(self.unclosed(place)),
             Token::EndlessGap | Token::EndlessText => {
                 Err(refused(self.text_code(depth), self.bytes.len()))
             }

@@ -9,7 +9,7 @@ ghost use Rattle.lisp_data.specs.Values.{IsSmall};
 ghost use Rattle.lisp_reader.specs.FormValue as spec;
 ghost use Rattle.lisp_reader.specs.FormValue.{SaysValue, SaysBuilt, SaysBefore};
 
-use lisp_data::{Form, Memory, Symbol, SymbolError, Value, ValueError};
+use lisp_data::{Form, Memory, Symbol, Value, ValueError};
 use std::alloc::Global;
 
 /// Whether a text is in a form.
@@ -44,14 +44,13 @@ fn any_text(forms: &[Form]) -> bool
     false
 }
 
-#[tactic(auto, using(crate::proofs::Leaves::names))]
+#[tactic(auto, unfolding(lisp_data::specs::SymbolText::is_symbol_text, lisp_data::specs::Atoms::leaf, lisp_data::specs::Atoms::in_atom, lisp_data::specs::Atoms::is_delimiter, lisp_data::specs::Atoms::is_sign, lisp_data::specs::Atoms::is_exponent))]
 fn nil(alloc: Global) -> Result<Value, ValueError>
     ensures { SaysBuilt nil_form result }
 {
-    match Symbol::new(alloc, "NIL") {
+    match Symbol::named(alloc, "NIL") {
         Ok(symbol) => Ok(Value::Sym(symbol)),
-        Err(SymbolError::BadText) => unreachable!(),
-        Err(SymbolError::Memory) => Err(ValueError::Memory),
+        Err(Memory) => Err(ValueError::Memory),
     }
 }
 

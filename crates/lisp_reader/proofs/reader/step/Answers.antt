@@ -1,4 +1,4 @@
-use Rattle.std.proofs.Common.{◌≡◌, ◌∙◌, ◌-◌, ◌<◌, length, cond, Some, None, [], ap, arith, sym}
+use Rattle.std.proofs.Common.{◌∙◌, ◌-◌, length, cond, Some, None, [], ap, arith, sym}
 use Rattle.lisp_reader.proofs.Book.{step-nothing, step-full, refuses, nothing-left, begins-room}
 use Rattle.lisp_reader.proofs.reader.step.Goals as goal
 

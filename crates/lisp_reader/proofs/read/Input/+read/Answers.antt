@@ -1,4 +1,4 @@
-use Rattle.std.proofs.Common.{◌≡◌, ◌∙◌, ◌+◌, ◌<◌, ◌++◌, ◌∷◌, [], sym, ap, length, nat_lt, arith, length-append, true, subst, ◌-◌}
+use Rattle.std.proofs.Common.{◌∙◌, ◌+◌, ◌<◌, ◌∷◌, [], sym, ap, length, nat_lt, arith, length-append, true, subst, ◌-◌}
 use Rattle.std.proofs.lemmas.Result.{err_from_is_err_and}
 use Rattle.lisp_data.specs.Datum.{chain}
 use Rattle.lisp_data.specs.FormView.{form_of, forms_of}
