@@ -5,7 +5,8 @@ use Rattle.lisp_data.specs.Values.{Val, Int, Sym, Pair, nil}
 use Rattle.terms.specs.Primitives.{One, Two, primitive, primitives, is_nil, is_int, truth, choose, number}
 use Rattle.terms.specs.Definitions.{Interp}
 use Rattle.terms.specs.Worlds.{Functions}
-use Rattle.terms.specs.Formed.{AllFormed, HasBasics, not_def, implies_def, natp_def}
+use Rattle.terms.specs.BuiltIn.{not_def, implies_def, natp_def}
+use Rattle.terms.specs.Formed.{AllFormed, HasBasics}
 use Rattle.terms.proofs.Models.{Model}
 use Rattle.terms.proofs.Meaning.{of_primitive, of_definition, of_if, not_nil, nil_is, nil_false}
 

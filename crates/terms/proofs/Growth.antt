@@ -1,23 +1,21 @@
 -- A sound world stays sound as it grows.
-use Rattle.std.proofs.Common.{arith, inl, inr, ◌⊎◌, ◌≡◌, ℕ, Bool, true, false, cond, not, ◌&&◌, List, [], ◌∷◌, ◌++◌, length, map, bytes_eq, codes, Option, Some, None, IfSome, refl, sym, ap, ap₂, ◌∙◌, subst}
+use Rattle.std.proofs.Common.{inl, inr, ◌⊎◌, ◌≡◌, ℕ, Bool, true, false, cond, not, ◌&&◌, List, [], ◌∷◌, ◌++◌, length, map, bytes_eq, codes, Option, Some, None, IfSome, refl, sym, ap, ◌∙◌, subst}
 use Rattle.std.proofs.lemmas.Bool.{or_parts, and_parts, not-true}
 use Rattle.lisp_data.specs.Values.{Name, Val}
-use Rattle.terms.specs.Primitives.{operands, operate, One, Two, Three, Operation, primitive, lookup}
+use Rattle.terms.specs.Primitives.{Operation, primitive, lookup}
 use Rattle.terms.specs.Terms.{Tm, Call, Tms, Done, More, count, OverAll, substitute, by_args}
 use Rattle.terms.specs.declared.definition.Definition.{Definition}
 use Rattle.terms.specs.Definitions.{find, Interp}
-use Rattle.terms.specs.Evaluation.{resolve, variable, below, apply}
-use Rattle.terms.specs.Worlds.{names, Distinct, Functions, World, FitsSequent, arity, arity_by, Fits, IsIn, Each, TotalFor, Total, IsTrueAt, Holds}
+use Rattle.terms.specs.Worlds.{names, Distinct, Functions, World, FitsSequent, arity, arity_by, Fits, IsIn, Each, IsTrueAt, Holds}
 use Rattle.terms.specs.declared.sequent.Sequent.{Sequent}
 use Rattle.terms.specs.Measures.{mentions, mentions_in, is_nested, is_nested_in, call1, RecursiveCall, Place, Plain, Test, Then, Else, tests_at, next, first_place, recursive_calls, recursive_calls_in, falls, owed_by, obligations}
-use Rattle.terms.specs.Formed.{with_def, with_var, FitsOver, IsFormed, functions, AllFormed, HasBasics, ObligationsHold, VarsApart, not_def, natp_def, implies_def}
-use Rattle.terms.specs.Sound.{Sound, AllHold, iso_conditions, empty_world, add_definition, add_theorem}
-use Rattle.terms.specs.declared.entries.Specification.{Specification}
-use Rattle.terms.specs.declared.entries.Iso.{Iso}
-use Rattle.terms.specs.Laws.{WorldsGrow, StaysTotalFlat}
-use Rattle.terms.proofs.Names.{same_name, name_self, name_apart}
+use Rattle.terms.specs.BuiltIn.{not_def, implies_def, natp_def, binary_append_def}
+use Rattle.terms.specs.Formed.{with_def, FitsOver, IsFormed, AllFormed, HasBasics}
+use Rattle.terms.specs.Sound.{Sound, AllHold, iso_conditions, add_definition, add_theorem}
+use Rattle.terms.specs.Laws.{StaysTotalFlat}
+use Rattle.terms.proofs.Names.{same_name, name_self}
 use Rattle.terms.proofs.Below.{Any}
-use Rattle.terms.proofs.Extend.{over_map, eval_with, other_name, find_later, arity_later}
+use Rattle.terms.proofs.Extend.{over_map, eval_with, find_later, arity_later}
 use Rattle.terms.proofs.Meaning.{arity_primitive, arity_defined}
 use Rattle.terms.proofs.Basics.{is_less}
 use Rattle.terms.proofs.Totality.{EachTm, by_terms, each_join, each_to, lacks_fits, lacks_all_fits, over_substitute, over_by_args, stays_total}
@@ -164,6 +162,16 @@ module _ (W : Functions) (formed : AllFormed W.vars W.defs) (d : Definition) (fr
   all_later : (ss : List Sequent) → AllHold W ss → AllHold (with_def W d) ss
   all_later ss h = each_to (λ s. FitsSequent W s × Holds W s) _ (λ s k. (sequent_later s k.0, holds_later s k.0 k.1)) ss h
 
+  pub found_later : (f : Name) (e : Definition) → find W.defs f ≡ Some e → find (d ∷ W.defs) f ≡ Some e
+  found_later f e found = find_later W d fresh f (length e.formals) (arity_defined W formed f e found) ∙ found
+
+  pub basics_later : HasBasics W → HasBasics (with_def W d)
+  basics_later basics = record {
+    has_not = found_later (codes "NOT") not_def basics.has_not;
+    has_implies = found_later (codes "IMPLIES") implies_def basics.has_implies;
+    has_natp = found_later (codes "NATP") natp_def basics.has_natp;
+  }
+
 -- what a definition that isn't recursive owes: nothing
 owes_nothing : (P : Sequent → Type 0) (d : Definition) → mentions d.name d.body ≡ false → Each P (obligations d)
 owes_nothing P d e = subst (λ b. Each P (cond b (owed_by d d.measure) [])) (sym e) tt
@@ -179,7 +187,7 @@ free_primitive F f e = by_cases (primitive f) (find F.defs f) (lookup F.vars f) 
     by_cases None q r h = refl
     by_cases (Some p) q r h = cc
 
-with_definition : (W : World) → Sound W → (d : Definition) → IsFormed W.functions d → (IsIn (names W) d.name → ⊥) → mentions d.name d.body ≡ false → Sound (add_definition d W)
+pub with_definition : (W : World) → Sound W → (d : Definition) → IsFormed W.functions d → (IsIn (names W) d.name → ⊥) → mentions d.name d.body ≡ false → Sound (add_definition d W)
 with_definition W sound d ok new flat =
     let F = W.functions in
     record {
@@ -191,6 +199,8 @@ with_definition W sound d ok new flat =
           let a : arity F x ≡ Some k = ap (λ p. arity_by p (find F.defs x) (lookup F.vars x)) h.0 ∙ ap (λ q. arity_by None q (lookup F.vars x)) h.1 ∙ e in
           (h.0, find_later F d ok.fresh x k a ∙ h.1);
       total = flat_stays_total F sound.formed sound.total d ok flat;
+      basics = basics_later F sound.formed d ok.fresh sound.basics;
+      append = found_later F sound.formed d ok.fresh (codes "BINARY-APPEND") binary_append_def sound.append;
       obligations = (
         owes_nothing (λ s. FitsSequent (with_def F d) s × Holds (with_def F d) s) d flat,
         each_to (λ e. AllHold F (obligations e)) (λ e. AllHold (with_def F d) (obligations e)) (λ e h. all_later F sound.formed d ok.fresh (obligations e) h) F.defs sound.obligations,
@@ -203,43 +213,6 @@ with_definition W sound d ok new flat =
     by_test : (f : Name) (b : Bool) → bytes_eq d.name f ≡ b → cond b (Unit {0}) (IsIn (names W) f) → primitive f ≡ None
     by_test f true t i = subst (λ g. primitive g ≡ None) (same_name d.name f t) (free_primitive W.functions d.name ok.fresh)
     by_test f false t i = sound.unlike_primitives f i
-
-operates : (p : Operation) (vs : List Val) → length vs ≡ operands p → (v : Val) × (operate p vs ≡ Some v)
-operates (One f) [] e = absurd (omega arith)
-operates (One f) (a ∷ []) e = (_, refl)
-operates (One f) (a ∷ b ∷ vs) e = absurd (omega arith)
-operates (Two f) [] e = absurd (omega arith)
-operates (Two f) (a ∷ []) e = absurd (omega arith)
-operates (Two f) (a ∷ b ∷ []) e = (_, refl)
-operates (Two f) (a ∷ b ∷ c ∷ vs) e = absurd (omega arith)
-operates (Three f) [] e = absurd (omega arith)
-operates (Three f) (a ∷ []) e = absurd (omega arith)
-operates (Three f) (a ∷ b ∷ []) e = absurd (omega arith)
-operates (Three f) (a ∷ b ∷ c ∷ []) e = (_, refl)
-operates (Three f) (a ∷ b ∷ c ∷ d ∷ vs) e = absurd (omega arith)
-
-no_functions : Total (functions [] [])
-no_functions I tot f k a vs len = by_primitive (primitive f) refl a
-  where
-    by_primitive : (p : Option Operation) → primitive f ≡ p → arity_by p None None ≡ Some k → (n : ℕ) × (v : Val) × (apply n [] I f vs ≡ Some v)
-    by_primitive None e a' = absurd (cc)
-    by_primitive (Some p) e a' =
-        let n : operands p ≡ k = cc in
-        let r = operates p vs (len ∙ sym n) in
-        (0, r.0, ap (λ q. resolve q None (below 0 [] I) (variable (below 0) I f vs) vs) e ∙ r.1)
-
-begins : Sound empty_world
-begins = record {
-  distinct = tt;
-  unlike_primitives = λ f i. absurd i;
-  formed = tt;
-  apart = λ x k e. absurd (cc);
-  total = no_functions;
-  obligations = tt;
-  theorems = tt;
-  specifications = tt;
-  isos = tt;
-}
 
 -- one name more, somewhere in the list
 record Inserted (n : Name) (zs ws : List Name) : Type 0 where
@@ -277,7 +250,7 @@ inserted_after : (n : Name) (xs zs ws : List Name) → Inserted n zs ws → Inse
 inserted_after n [] zs ws h = h
 inserted_after n (x ∷ xs) zs ws h = inserted_behind n x (xs ++ zs) (xs ++ ws) (inserted_after n xs zs ws h)
 
-with_theorem : (W : World) → Sound W → (n : Name) (s : Sequent) → primitive n ≡ None → (IsIn (names W) n → ⊥) → s.hyps ≡ [] → FitsSequent W.functions s → Holds W.functions s → Sound (add_theorem n s W)
+pub with_theorem : (W : World) → Sound W → (n : Name) (s : Sequent) → primitive n ≡ None → (IsIn (names W) n → ⊥) → s.hyps ≡ [] → FitsSequent W.functions s → Holds W.functions s → Sound (add_theorem n s W)
 with_theorem W sound n s free new none fit h =
     let rest = map (λ t. t.0) W.theorems ++ (map (λ s. s.name) W.specifications ++ map (λ i. i.name) W.isos) in
     let more : Inserted n (names W) (names (add_theorem n s W)) =
@@ -291,11 +264,10 @@ with_theorem W sound n s free new none fit h =
       formed = sound.formed;
       apart = sound.apart;
       total = sound.total;
+      basics = sound.basics;
+      append = sound.append;
       obligations = sound.obligations;
       theorems = ((none, fit, h), sound.theorems);
       specifications = sound.specifications;
       isos = sound.isos;
     }
-
-pub worlds_grow : WorldsGrow
-worlds_grow = record { begins = begins; definition = with_definition; theorem = with_theorem }

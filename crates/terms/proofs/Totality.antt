@@ -10,7 +10,8 @@ use Rattle.terms.specs.Evaluation.{bind, then_with, all_of, branch, call_of, val
 use Rattle.terms.specs.Worlds.{Functions, arity, arity_by, Fits, IsIn, Each, TotalFor, Total, IsTrueAt, Holds, GivesAValue}
 use Rattle.terms.specs.Measures.{mentions, mentions_in, is_nested, is_nested_in, call1, call2, RecursiveCall, Plain, Test, first_place, recursive_calls, recursive_calls_in, is_natural, falls, owed_by}
 use Rattle.terms.specs.Laws.{StaysTotal}
-use Rattle.terms.specs.Formed.{with_def, FitsOver, IsFormed, AllFormed, HasBasics, ObligationsHold, not_def, natp_def}
+use Rattle.terms.specs.BuiltIn.{not_def, natp_def}
+use Rattle.terms.specs.Formed.{with_def, FitsOver, IsFormed, AllFormed, HasBasics, ObligationsHold}
 use Rattle.terms.proofs.Names.{same_name, name_self}
 use Rattle.terms.proofs.Below.{Any}
 use Rattle.terms.proofs.Models.{Reaches, Model, model, val, vals, vals-length, somes, call_of-somes, reaches_val, is_if}

@@ -1,12 +1,13 @@
 -- Well-formed definitions and worlds.
-use Rattle.std.specs.Prelude.{◌≡◌, ℕ, true, false, List, [], ◌∷◌, pos, is_some, codes, Some, None, IfSome}
-use Rattle.lisp_data.specs.Values.{Name, Val, Int, nil}
+use Rattle.std.specs.Prelude.{◌≡◌, ℕ, true, false, List, [], ◌∷◌, is_some, codes, Some, None, IfSome}
+use Rattle.lisp_data.specs.Values.{Name}
 use Rattle.terms.specs.Primitives.{primitive, lookup}
-use Rattle.terms.specs.Terms.{Tm, Var, Quote, Over}
+use Rattle.terms.specs.Terms.{Tm, Over}
 use Rattle.terms.specs.declared.definition.Definition.{Definition}
 use Rattle.terms.specs.Definitions.{find}
 use Rattle.terms.specs.Worlds.{Functions, arity, IsIn, Distinct, Each, Holds}
-use Rattle.terms.specs.Measures.{mentions, is_nested, call1, call2, call3, obligations}
+use Rattle.terms.specs.Measures.{mentions, is_nested, obligations}
+use Rattle.terms.specs.BuiltIn.{not_def, implies_def, natp_def}
 
 -- the world with a further definition
 abbrev pub with_def : Functions → Definition → Functions
@@ -39,33 +40,6 @@ functions vars ds = record { defs = ds; vars = vars }
 abbrev pub AllFormed : List (Name × ℕ) → List Definition → Type 0
 AllFormed vars [] = Unit {0}
 AllFormed vars (d ∷ ds) = IsFormed (functions vars ds) d × AllFormed vars ds
-
--- (if p 'nil 't)
-abbrev pub not_def : Definition
-not_def = record {
-  name = codes "NOT";
-  formals = codes "P" ∷ [];
-  body = call3 (codes "IF") (Var (codes "P")) (Quote nil) (Quote (Val.Sym (codes "T")));
-  measure = None;
-}
-
--- (if p (if q 't 'nil) 't)
-abbrev pub implies_def : Definition
-implies_def = record {
-  name = codes "IMPLIES";
-  formals = codes "P" ∷ codes "Q" ∷ [];
-  body = call3 (codes "IF") (Var (codes "P")) (call3 (codes "IF") (Var (codes "Q")) (Quote (Val.Sym (codes "T"))) (Quote nil)) (Quote (Val.Sym (codes "T")));
-  measure = None;
-}
-
--- (if (integerp x) (not (< x '0)) 'nil)
-abbrev pub natp_def : Definition
-natp_def = record {
-  name = codes "NATP";
-  formals = codes "X" ∷ [];
-  body = call3 (codes "IF") (call1 (codes "INTEGERP") (Var (codes "X"))) (call1 (codes "NOT") (call2 (codes "<") (Var (codes "X")) (Quote (Int (pos 0))))) (Quote nil);
-  measure = None;
-}
 
 -- the world has the definitions that obligations speak with
 pub record HasBasics (W : Functions) : Type 0 where

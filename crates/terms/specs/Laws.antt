@@ -5,10 +5,10 @@ use Rattle.terms.specs.Primitives.{primitive}
 use Rattle.terms.specs.Terms.{Tm, substitute}
 use Rattle.terms.specs.Definitions.{Interp}
 use Rattle.terms.specs.Evaluation.{Env, eval}
-use Rattle.terms.specs.Worlds.{Functions, World, FitsSequent, IsIn, names, arity, Total, Fits, Holds}
+use Rattle.terms.specs.Worlds.{Functions, World, FitsSequent, IsIn, names, Total, Fits, Holds}
 use Rattle.terms.specs.Measures.{mentions}
 use Rattle.terms.specs.Formed.{with_def, IsFormed, AllFormed, HasBasics, ObligationsHold}
-use Rattle.terms.specs.Sound.{Sound, empty_world, add_definition, add_theorem}
+use Rattle.terms.specs.Sound.{Sound, initial_world, add_definition, add_theorem}
 use Rattle.terms.specs.declared.definition.Definition.{Definition}
 use Rattle.terms.specs.declared.sequent.Sequent.{Sequent}
 
@@ -35,8 +35,8 @@ abbrev pub StaysTotalFlat : Type 0
 StaysTotalFlat =
     (W : Functions) → AllFormed W.vars W.defs → Total W → (d : Definition) → IsFormed W d → mentions d.name d.body ≡ false → Total (with_def W d)
 
--- the world of the primitives is sound, and a sound world stays so with a definition that isn't recursive, and with a theorem that holds
+-- the world that each book begins with is sound, and a sound world stays so with a definition that isn't recursive, and with a theorem that holds
 pub record WorldsGrow : Type 0 where
-  pub begins : Sound empty_world
+  pub begins : Sound initial_world
   pub definition : (W : World) → Sound W → (d : Definition) → IsFormed W.functions d → (IsIn (names W) d.name → ⊥) → mentions d.name d.body ≡ false → Sound (add_definition d W)
   pub theorem : (W : World) → Sound W → (n : Name) (s : Sequent) → primitive n ≡ None → (IsIn (names W) n → ⊥) → s.hyps ≡ [] → FitsSequent W.functions s → Holds W.functions s → Sound (add_theorem n s W)

@@ -1,14 +1,16 @@
 -- Sound worlds, and how they grow.
-use Rattle.std.specs.Prelude.{◌≡◌, None, List, [], ◌∷◌, codes}
+use Rattle.std.specs.Prelude.{◌≡◌, Some, None, List, [], ◌∷◌, codes}
 use Rattle.lisp_data.specs.Values.{Name}
 use Rattle.terms.specs.Primitives.{primitive}
 use Rattle.terms.specs.Terms.{Tm, Var}
 use Rattle.terms.specs.Measures.{call1, call2, obligations}
 use Rattle.terms.specs.Worlds.{World, Functions, Each, IsIn, Distinct, FitsSequent, Holds, Total, names}
-use Rattle.terms.specs.Formed.{with_def, AllFormed, FitsOver, VarsApart}
+use Rattle.terms.specs.BuiltIn.{binary_append_def, initial_definitions}
+use Rattle.terms.specs.Definitions.{find}
+use Rattle.terms.specs.InitialTheorems.{initial_theorems}
+use Rattle.terms.specs.Formed.{with_def, AllFormed, FitsOver, HasBasics, VarsApart}
 use Rattle.terms.specs.declared.definition.Definition.{Definition}
 use Rattle.terms.specs.declared.sequent.Sequent.{Sequent}
-use Rattle.terms.specs.declared.entries.Specification.{Specification}
 use Rattle.terms.specs.declared.entries.Iso.{Iso}
 
 -- each sequent is well formed in the world, and holds there
@@ -38,17 +40,21 @@ pub record Sound (W : World) : Type 0 where
   pub formed : AllFormed W.functions.vars W.functions.defs
   pub apart : VarsApart W.functions
   pub total : Total W.functions
+  -- NOT, IMPLIES and NATP are the functions that rules and obligations speak with
+  pub basics : HasBasics W.functions
+  -- BINARY-APPEND is the function that the word APPEND stands for
+  pub append : find W.functions.defs (codes "BINARY-APPEND") ≡ Some binary_append_def
   -- what measures owe, theorems and the conditions of isomorphisms hold
   pub obligations : Each (λ d. AllHold W.functions (obligations d)) W.functions.defs
   pub theorems : Each (λ t. (t.1.hyps ≡ []) × FitsSequent W.functions t.1 × Holds W.functions t.1) W.theorems
   pub specifications : Each (λ s. FitsOver W.functions s.variables s.matrix) W.specifications
   pub isos : Each (λ i. AllHold W.functions (iso_conditions i)) W.isos
 
--- the world of the primitives
-abbrev pub empty_world : World
-empty_world = record {
-  functions = record { defs = []; vars = [] };
-  theorems = [];
+-- the world that each book begins with
+abbrev pub initial_world : World
+initial_world = record {
+  functions = record { defs = initial_definitions; vars = [] };
+  theorems = initial_theorems;
   specifications = [];
   isos = [];
   instances = [];

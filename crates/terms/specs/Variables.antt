@@ -1,5 +1,5 @@
 -- The variables of a term.
-use Rattle.std.specs.Prelude.{ℕ, List, [], ◌∷◌, ◌++◌, bytes_eq, if◌then◌else◌}
+use Rattle.std.specs.Prelude.{List, [], ◌∷◌, ◌++◌, bytes_eq, if◌then◌else◌}
 use Rattle.std.specs.List.{list_any}
 use Rattle.lisp_data.specs.Values.{Name}
 use Rattle.terms.specs.Terms.{Tm, Var, Quote, Call, Tms, Done, More}

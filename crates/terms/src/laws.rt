@@ -27,7 +27,7 @@ pub fn flat_definitions_stay_total()
     ensures { StaysTotalFlat }
 {}
 
-/// The world of the primitives is sound, and a sound world stays so as it grows.
+/// The world that each book begins with is sound, and a sound world stays so as it grows.
 pub fn worlds_grow()
     ensures { WorldsGrow }
 {}

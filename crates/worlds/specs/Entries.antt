@@ -1,7 +1,8 @@
 -- What an entry adds to a world.
-use Rattle.std.specs.Prelude.{◌≡◌, ◌+◌, ℕ, Bool, cond, length, bytes_eq, Option, Some, None}
+use Rattle.std.specs.Prelude.{◌≡◌, ◌+◌, ◌-◌, ℕ, Bool, cond, length, bytes_eq, Option, Some, None}
 use Rattle.lisp_data.specs.Values.{Name}
 use Rattle.terms.specs.Worlds.{World}
+use Rattle.terms.specs.InitialTheorems.{initial_theorems}
 use Rattle.terms.specs.Sound.{Sound, add_definition, add_theorem}
 use Rattle.terms.specs.declared.definition.Definition.{Definition}
 use Rattle.terms.specs.declared.sequent.Sequent.{Sequent}
@@ -33,7 +34,11 @@ entries W =
     length W.functions.defs + length W.functions.vars + length W.theorems + length W.specifications + length W.isos
     + length W.instances + length W.links + length W.events
 
--- what is kept of each world: it is sound, and its theorems are counted
+-- how many theorems it has beyond those that each book begins with
+abbrev pub further_theorems : World → ℕ
+further_theorems W = length W.theorems - length initial_theorems
+
+-- what is kept of each world: it is sound, and its further theorems are counted
 pub record IsWorld (W : World) (theorems : ℕ) : Type 0 where
   pub sound : Sound W
-  pub count : theorems ≡ length W.theorems
+  pub count : length W.theorems ≡ theorems + length initial_theorems

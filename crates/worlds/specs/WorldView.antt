@@ -1,11 +1,18 @@
 -- What a world is seen as.
 use Rattle.terms.specs.Worlds.{World}
-use Rattle.terms.specs.Sound.{empty_world}
+use Rattle.terms.specs.Formed.{functions}
+use Rattle.terms.specs.Sound.{initial_world}
+use Rattle.std.specs.Prelude.{[]}
 use Rattle.worlds.specs.Entries.{with_entry}
+use Rattle.worlds.specs.declared.base.Base.{Base}
 use Rattle.worlds.specs.declared.world.Link.{Link}
-use Rattle.worlds.specs.declared.world.Link.TheVariants.{End, More}
+use Rattle.worlds.specs.declared.world.Link.TheVariants.{Bottom, More}
 
--- the newest entry on top of the others
+-- the initial world, with the definitions and theorems that the base holds
+abbrev pub base_world : Base → World
+base_world base = record initial_world { functions = functions [] base.definitions; theorems = base.theorems }
+
+-- the newest entry on top of the others, and the base below them all
 abbrev pub world_of : Link → World
-world_of End = empty_world
+world_of (Bottom base) = base_world base.value
 world_of (More layer) = with_entry layer.value.entry layer.value.rest

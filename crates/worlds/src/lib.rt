@@ -2,6 +2,10 @@
 //! the one before.
 #![tactic(auto)]
 
+mod base;
+mod build;
+mod built_in;
+mod built_in_theorems;
 mod entry;
 mod function;
 mod names;

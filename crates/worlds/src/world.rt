@@ -1,16 +1,17 @@
-ghost use Rattle.std.specs.Prelude.{◌≡◌, ◌↔◌, [], length, IfOk, IfSome, IsErrOf, false};
+ghost use Rattle.std.specs.Prelude.{◌≡◌, ◌↔◌, [], IfOk, IfSome, IsErrOf, false};
 ghost use Rattle.std.specs.Option.{option_copied};
 ghost use Rattle.terms.specs.Primitives.{lookup};
 ghost use Rattle.terms.specs.Definitions.{find};
 ghost use Rattle.terms.specs.Worlds.{arity, names, is_in, Holds, FitsSequent};
 ghost use Rattle.terms.specs.Measures.{mentions};
 ghost use Rattle.terms.specs.Formed.{IsWellFormed};
-ghost use Rattle.terms.specs.Sound.{Sound, empty_world, add_definition, add_theorem};
+ghost use Rattle.terms.specs.Sound.{Sound, initial_world, add_definition, add_theorem};
 ghost use Rattle.worlds.specs.Names.{is_free};
-ghost use Rattle.worlds.specs.Entries.{with_entry};
+ghost use Rattle.worlds.specs.Entries.{with_entry, further_theorems};
 ghost use Rattle.worlds.specs.WorldView.{world_of};
 ghost use Rattle.worlds.specs.Functions.{IsFunction};
 
+use crate::base::Base;
 use crate::entry::Entry;
 use crate::function::Function;
 use crate::names::{is_reserved, operands};
@@ -18,7 +19,7 @@ use lisp_data::{Memory, Symbol};
 use std::alloc::Global;
 use std::marker::Model;
 use std::rc::Rc;
-use terms::{Definition, Sequent};
+use terms::{Definition, Sequent, Signatures};
 
 /// Why a world can't grow.
 #[derive(Clone, Copy, Debug, PartialEq, Eq)]
@@ -69,7 +70,7 @@ impl Drop for World {
 #[cycle(world)]
 #[derive(Drop)]
 enum Link {
-    End,
+    Bottom(Rc<Base>),
     More(Rc<Layer>),
 }
 
@@ -103,13 +104,14 @@ impl Model for World {
 }
 
 impl World {
-    /// The world that each book begins with: the primitives alone.
-    pub fn initial(_alloc: Global) -> Result<World, Memory>
-        ensures { IfOk result (λ w. w ≡ empty_world) }
+    /// The world that each book begins with.
+    pub fn initial(alloc: Global) -> Result<World, Memory>
+        ensures { IfOk result (λ w. w ≡ initial_world) }
     {
         terms::worlds_grow();
+        let base = Rc::new(alloc, Base::initial(alloc)?)?;
         Ok(World {
-            top: Link::End,
+            top: Link::Bottom(base),
             theorems: 0,
         })
     }
@@ -119,7 +121,7 @@ impl World {
         ensures { IfOk result (λ w. w ≡ self.now) }
     {
         let top = match &self.top {
-            Link::End => Link::End,
+            Link::Bottom(base) => Link::Bottom(base.clone()?),
             Link::More(layer) => Link::More(layer.clone()?),
         };
         Ok(World {
@@ -144,13 +146,17 @@ impl World {
             return Some(Function::Primitive(arity));
         }
         let mut world = self;
-        while let Link::More(layer) = &world.top {
-            if let Some(definition) = layer.entry.definition(name) {
-                return Some(Function::Defined(definition));
+        loop {
+            match &world.top {
+                Link::Bottom(base) => return base.definition(name).map(Function::Defined),
+                Link::More(layer) => {
+                    if let Some(definition) = layer.entry.definition(name) {
+                        return Some(Function::Defined(definition));
+                    }
+                    world = &layer.rest;
+                }
             }
-            world = &layer.rest;
         }
-        None
     }
 
     /// How many arguments the function of this name takes.
@@ -171,17 +177,20 @@ impl World {
         ensures { option_copied result ≡ find self.now.functions.defs name.now }
     {
         let mut world = self;
-        while let Link::More(layer) = &world.top {
-            if let Some(definition) = layer.entry.definition(name) {
-                return Some(definition);
+        loop {
+            match &world.top {
+                Link::Bottom(base) => return base.definition(name),
+                Link::More(layer) => {
+                    if let Some(definition) = layer.entry.definition(name) {
+                        return Some(definition);
+                    }
+                    world = &layer.rest;
+                }
             }
-            world = &layer.rest;
         }
-        None
     }
 
     /// The theorem of this name. It has no hypotheses, is well formed in the world, and holds.
-    #[tactic(auto, using(crate::proofs::Lookups::lookups))]
     pub fn find_theorem(&self, name: &Symbol) -> Option<&Sequent>
         ensures value { option_copied result ≡ lookup self.now.theorems name.now }
         ensures no_hyps { IfSome result (λ s. s.now.hyps ≡ []) }
@@ -189,14 +198,28 @@ impl World {
         ensures holds { IfSome result (λ s. Holds self.now.functions s.now) }
     {
         self.soundness();
-        let mut world = self;
-        while let Link::More(layer) = &world.top {
-            if let Some(sequent) = layer.entry.theorem(name) {
-                return Some(sequent);
-            }
-            world = &layer.rest;
+        match self.theorem(name) {
+            Some(sequent) => Some(sequent),
+            None => None,
         }
-        None
+    }
+
+    #[tactic(auto, using(crate::proofs::Lookups::lookups))]
+    fn theorem(&self, name: &Symbol) -> Option<&Sequent>
+        ensures { option_copied result ≡ lookup self.now.theorems name.now }
+    {
+        let mut world = self;
+        loop {
+            match &world.top {
+                Link::Bottom(base) => return base.theorem(name),
+                Link::More(layer) => {
+                    if let Some(sequent) = layer.entry.theorem(name) {
+                        return Some(sequent);
+                    }
+                    world = &layer.rest;
+                }
+            }
+        }
     }
 
     /// Whether the name may be given: it isn't reserved (docs/BOOKS.md), and nothing of the world has it.
@@ -211,18 +234,22 @@ impl World {
         ensures { result ≡ is_in (names self.now) name.now }
     {
         let mut world = self;
-        while let Link::More(layer) = &world.top {
-            if layer.entry.is_named(name) {
-                return true;
+        loop {
+            match &world.top {
+                Link::Bottom(base) => return base.has_name(name),
+                Link::More(layer) => {
+                    if layer.entry.is_named(name) {
+                        return true;
+                    }
+                    world = &layer.rest;
+                }
             }
-            world = &layer.rest;
         }
-        false
     }
 
-    /// How many theorems it has.
+    /// How many theorems it has beyond those that each book begins with.
     pub fn theorems(&self) -> u64
-        ensures { result ≡ length self.now.theorems }
+        ensures { result ≡ further_theorems self.now }
     {
         self.theorems
     }
@@ -275,6 +302,16 @@ impl World {
         let rest = self.share()?;
         let layer = Rc::new(alloc, Layer { entry, rest })?;
         Ok(Link::More(layer))
+    }
+}
+
+impl Signatures for World {
+    ghost use Rattle.terms.specs.Worlds.{arity};
+
+    ghost arity_of = { λ W. arity W.functions };
+
+    fn arity(&self, name: &Symbol) -> Option<usize> {
+        self.arity(name)
     }
 }
 

@@ -48,6 +48,13 @@ fn grows(rt: HostRuntime) -> Result<(), Fail> {
     let name = Symbol::new(alloc, "TWO")?;
     let fact = Symbol::new(alloc, "TWO-HOLDS")?;
     let begin = World::initial(alloc)?;
+    let append = Symbol::new(alloc, "BINARY-APPEND")?;
+    assert_eq!(rt; begin.arity(&append), Some(2));
+    assert!(rt; begin.find_definition(&append).is_some());
+    assert!(rt; !begin.is_free(&append));
+    let same = Symbol::new(alloc, "EQUAL-SAME")?;
+    assert!(rt; begin.find_theorem(&same).is_some());
+    assert_eq!(rt; begin.theorems(), 0);
     let world = begin.with_function(alloc, function(alloc, &name)?)?;
     let sequent = sequent(alloc)?;
     let grown = world.with_theorem(alloc, fact.share()?, sequent)?;
