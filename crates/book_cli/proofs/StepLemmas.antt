@@ -1,28 +1,25 @@
 -- The answers to events.
-use Rattle.std.proofs.Common.{◌≡◌, ℕ, Bool, true, false, ◌&&◌, List, [], ◌∷◌, Option, Some, None, option_map, option_and_then, refl, ap, sym, ◌∙◌, subst}
+use Rattle.std.proofs.Common.{◌≡◌, ℕ, Bool, true, false, ◌&&◌, List, [], ◌∷◌, Result, Ok, Err, if◌then◌else◌, refl, ap, sym, ◌∙◌, subst}
+use Rattle.std.specs.Result.{IsErr, IsErrAnd}
 use Rattle.std.proofs.lemmas.Bool.{and_parts}
 use Rattle.lisp_data.specs.Values.{Name}
-use Rattle.lisp_data.specs.Datum.{Datum}
+use Rattle.lisp_data.specs.declared.detail.Detail.{Detail}
+use Rattle.lisp_data.specs.declared.detail.Detail.TheVariants.{Absent}
 use Rattle.terms.specs.Terms.{Tm, same_tm}
-use Rattle.terms.specs.Worlds.{World, Functions, Holds, is_in}
-use Rattle.terms.specs.declared.definition.Definition.{Definition}
+use Rattle.terms.specs.Measures.{mentions}
+use Rattle.terms.specs.Translation.{Outcome, and_then}
+use Rattle.terms.specs.TranslationView.{SaysOutcome}
+use Rattle.terms.specs.declared.translation.TermError.{TermError}
+use Rattle.terms.specs.declared.translation.TermError.TheVariants as term
+use Rattle.event_forms.specs.Refused.{not_an_event}
+use Rattle.terms.specs.Worlds.{World, Holds}
 use Rattle.terms.specs.declared.sequent.Sequent.{Sequent}
 use Rattle.terms.proofs.Same.{same_term}
-use Rattle.event_forms.specs.SmallTerms.{term_of}
-use Rattle.book_cli.specs.SmallFunctions.{takes}
-use Rattle.book_cli.specs.Events.{formals_of, function, definition_of, claim, is_empty, proves}
-
--- a body that is none
-pub defined_none : (W : World) (f : Name) (formals : List Datum) (body : Datum) (o : Option (List Name)) (xs : List Name) (b : Option Tm)
-    → o ≡ formals_of formals → o ≡ Some xs → b ≡ term_of (is_in xs) (takes W.functions) body → b ≡ None → None ≡ definition_of W f formals body
-defined_none W f formals body o xs b e g h n =
-    sym (ap (option_and_then (λ xs. option_map (function f xs) (term_of (is_in xs) (takes W.functions) body))) (sym e ∙ g) ∙ ap (option_map (function f xs)) (sym h ∙ n))
-
-pub defined_some : (W : World) (f name : Name) (formals : List Datum) (body : Datum) (o : Option (List Name)) (xs : List Name) (b : Option Tm) (t : Tm)
-    → o ≡ formals_of formals → o ≡ Some xs → b ≡ term_of (is_in xs) (takes W.functions) body → b ≡ Some t → name ≡ f → Some (function name xs t) ≡ definition_of W f formals body
-defined_some W f name formals body o xs b t e g h n same =
-    ap (λ x. Some (function x xs t)) same
-    ∙ sym (ap (option_and_then (λ xs. option_map (function f xs) (term_of (is_in xs) (takes W.functions) body))) (sym e ∙ g) ∙ ap (option_map (function f xs)) (sym h ∙ n))
+use Rattle.book_cli.specs.Events.{claim, is_empty, proves, unless_recursive}
+use Rattle.book_cli.specs.Halts.{IsCoded, IsRefusal, IsFromTerm, Says}
+use Rattle.book_cli.specs.declared.refusal.Refusal.TheVariants.{Coded, ProofWrong}
+use Rattle.book_cli.specs.declared.halt.Halt.{Halt}
+use Rattle.book_cli.specs.declared.halt.Halt.TheVariants.{Refused, Memory}
 
 -- the claim of what was proved holds
 pub claim_holds : (V W : World) (s : Sequent) (t g : Tm) (us hs : List Tm) → V ≡ W → s ≡ claim t → us ≡ [] → hs ≡ [] → g ≡ t → Holds V.functions s → Holds W.functions (record { universals = us; hyps = hs; goal = g })
@@ -40,3 +37,30 @@ claim_is s t e =
     let p = and_parts (is_empty s.universals && is_empty s.hyps) (same_tm s.goal t) e in
     let q = and_parts (is_empty s.universals) (is_empty s.hyps) p.0 in
     λ i. record { universals = empty_is s.universals q.0 i; hyps = empty_is s.hyps q.1 i; goal = same_term s.goal t p.1 i }
+
+-- an error is the refusal of an outcome
+pub coded_refusal : {A : Type 0} (o : Outcome A) (code : ℕ) (d : Detail) (h : Halt) → IsCoded code d h → o ≡ Err (code, d) → IsRefusal o h
+coded_refusal o code d (Refused (Coded c e)) is same = same ∙ (λ i. Err (sym is.0 i, sym is.1 i))
+coded_refusal o code d (Refused (ProofWrong node rule)) is same = absurd is
+coded_refusal o code d Memory is same = tt
+
+-- a term's error is the refusal of what goes on with the term
+pub term_refusal : {A : Type 0} (o : Outcome Tm) (k : Tm → Outcome A) (t : TermError) (h : Halt) → SaysOutcome {A = Tm} o (Err t) → IsFromTerm t h → IsRefusal (and_then o k) h
+term_refusal o k (term.Refused code d) h e is = subst (IsRefusal (and_then o k)) (sym is) (ap (λ p. and_then p k) e)
+term_refusal o k term.Memory h e is = subst (IsRefusal (and_then o k)) (sym is) tt
+
+pub by_error : {A B : Type 0} (seen : A → B) (o : Outcome B) (r : Result A Halt) (P : Halt → Type 0) → IsErr r × IsErrAnd r P → ((h : Halt) → P h → IsRefusal o h) → Says seen o r
+by_error seen o (Ok x) P h f = absurd h.1
+by_error seen o (Err e) P h f = f e h.1
+
+-- a body that calls the function itself, and one that doesn't
+module _ (o : Outcome Tm) (f : Name) (t : Tm) (calls : Bool) (is : o ≡ Ok t) (test : calls ≡ mentions f t) where
+  goes_on : and_then o (unless_recursive f) ≡ (if calls then not_an_event else Ok t)
+  goes_on = ap (λ p. and_then p (unless_recursive f)) is ∙ ap (λ b. if b then not_an_event else Ok t) (sym test)
+
+  pub recursive_body : calls ≡ true → (h : Halt) → IsCoded 11 Absent h → IsRefusal (and_then o (unless_recursive f)) h
+  recursive_body is_true h coded =
+      coded_refusal (and_then o (unless_recursive f)) 11 Absent h coded (goes_on ∙ ap (λ b. if b then not_an_event else Ok t) is_true)
+
+  pub flat_body : calls ≡ false → and_then o (unless_recursive f) ≡ Ok t
+  flat_body is_false = goes_on ∙ ap (λ b. if b then not_an_event else Ok t) is_false

@@ -1,7 +1,7 @@
-pub mod SmallFunctions
 pub mod Events
 pub mod Refusals
 pub mod Verdicts
+pub mod Halts
 pub mod Report
 pub mod Steps
 pub mod Begun

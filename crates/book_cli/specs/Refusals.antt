@@ -1,10 +1,12 @@
 -- How refusals are written.
-use Rattle.std.specs.Prelude.{ℕ, List, ◌++◌, nat_eq, if◌then◌else◌, codes}
+use Rattle.std.specs.Prelude.{ℕ, List, [], ◌++◌, nat_eq, if◌then◌else◌, codes}
 use Rattle.std.specs.Fmt.{decimal}
+use Rattle.lisp_data.specs.declared.detail.Detail.{Detail}
+use Rattle.lisp_data.specs.declared.detail.Detail.TheVariants.{Absent, Name, Word, Number}
 use Rattle.kernel.specs.declared.errors.RuleName.{RuleName}
 use Rattle.kernel.specs.declared.errors.RuleName.TheVariants.{Rule, Claim}
 use Rattle.book_cli.specs.declared.refusal.Refusal.{Refusal}
-use Rattle.book_cli.specs.declared.refusal.Refusal.TheVariants.{Unreadable, NotAnEvent, NameTaken, ProofWrong}
+use Rattle.book_cli.specs.declared.refusal.Refusal.TheVariants.{Coded, ProofWrong}
 
 -- the word of what can't be read, by its code, which is from 1 to 10
 abbrev pub fault_word : ℕ → List ℕ
@@ -15,14 +17,37 @@ fault_word code =
     else if nat_eq code 7 then codes "TooDeep" else if nat_eq code 8 then codes "BookTooLong"
     else if nat_eq code 9 then codes "SymbolTooLong" else codes "UnclosedText"
 
+-- the word of an event's refusal, by its code, which is from 11 to 20
+abbrev pub event_word : ℕ → List ℕ
+event_word code =
+    if nat_eq code 11 then codes "NotAnEvent" else if nat_eq code 12 then codes "BadForm"
+    else if nat_eq code 13 then codes "KeyNotKnown" else if nat_eq code 14 then codes "BookNotKnown"
+    else if nat_eq code 15 then codes "TermTooLarge" else if nat_eq code 16 then codes "NameTaken"
+    else if nat_eq code 17 then codes "UnknownName" else if nat_eq code 18 then codes "WrongArity"
+    else if nat_eq code 19 then codes "UnboundVariable" else if nat_eq code 20 then codes "RepeatedFormal"
+    else fault_word code
+
 -- a proof rule's word, by its number, which is 2, 3 or 4
 abbrev pub rule_word : RuleName → List ℕ
 rule_word (Rule n) = if nat_eq n 2 then codes ":REFL" else if nat_eq n 3 then codes ":REPLACE" else codes ":UNFOLD"
 rule_word Claim = codes ":CLAIM"
 
+-- a detail stands behind a blank, where there is one
+abbrev pub detail_after : Detail → List ℕ
+detail_after Absent = []
+detail_after (Name name) = codes " " ++ name
+detail_after (Word word) = codes " " ++ word
+detail_after (Number n) = codes " " ++ decimal n
+
+-- code and word
+abbrev pub coded_text : ℕ → List ℕ
+coded_text code = decimal code ++ (codes " " ++ event_word code)
+
+-- the node at which a proof is wrong, and its rule
+abbrev pub wrong_text : ℕ → RuleName → List ℕ
+wrong_text node rule = codes "32 ProofWrong :GOAL " ++ (decimal node ++ (codes " " ++ rule_word rule))
+
 -- code, word and detail
 abbrev pub refusal_text : Refusal → List ℕ
-refusal_text (Unreadable code) = decimal code ++ (codes " " ++ fault_word code)
-refusal_text NotAnEvent = codes "11 NotAnEvent"
-refusal_text (NameTaken name) = codes "16 NameTaken " ++ name
-refusal_text (ProofWrong node rule) = codes "32 ProofWrong :GOAL " ++ (decimal node ++ (codes " " ++ rule_word rule))
+refusal_text (Coded code detail) = coded_text code ++ detail_after detail
+refusal_text (ProofWrong node rule) = wrong_text node rule

@@ -1,46 +1,69 @@
 //! What an event defines.
 
-ghost use Rattle.std.specs.Prelude.{◌≡◌, map, IfOk, IfSome};
-ghost use Rattle.std.specs.Option.{option_copied};
+ghost use Rattle.std.specs.Prelude.{◌≡◌, [], map};
 ghost use Rattle.lisp_data.specs.FormView.{form_of, IsProper, AllProper};
+ghost use Rattle.terms.specs.Measures.{mentions as calls};
+ghost use Rattle.terms.specs.Terms.{tms};
+ghost use Rattle.terms.specs.Measures.{mentions_in};
+ghost use Rattle.terms.specs.Translation.{distinct_after};
 ghost use Rattle.terms.specs.Worlds.{is_in};
 ghost use Rattle.book_cli.specs.Events as spec;
+ghost use Rattle.book_cli.specs.Halts.{Says};
 
-use crate::small_functions::SmallFunctions;
-use event_forms::{is_variable_name, read_term, symbol};
-use lisp_data::{Form, Memory, Symbol, Symbols};
+use crate::halt::Halt;
+use crate::own::WithOwn;
+use event_forms::symbol;
+use lisp_data::{Form, Symbol, Symbols};
 use std::alloc::Global;
-use terms::{Definition, Scope, Sequent, Term};
+use terms::{
+    Definition, Node, Scope, Sequent, Term, is_function_name, is_variable_name, translate,
+};
 use worlds::World;
 
 /// The most formals of a function.
 const MAX_FORMALS: usize = 16;
 
-fn formal(form: &Form) -> Option<&Symbol>
-    requires { IsProper form.now }
-    ensures { option_copied result ≡ spec.formal_of (form_of form.now) }
+/// Checks the name of a new function or theorem.
+pub(crate) fn check_name(alloc: Global, world: &World, name: &Symbol) -> Result<(), Halt>
+    ensures { Says (λ x. x) (spec.new_name world.now name.now) result }
 {
-    let name = symbol(form)?;
-    if is_variable_name(name) {
-        Some(name)
-    } else {
-        None
+    if !is_function_name(name) {
+        return Err(Halt::bad_part(alloc, "name"));
+    }
+    if !world.is_free(name) {
+        return Err(Halt::named(16, name));
+    }
+    Ok(())
+}
+
+/// A variable name.
+fn formal<'a>(alloc: Global, form: &'a Form) -> Result<&'a Symbol, Halt>
+    requires { IsProper form.now }
+    ensures { Says (λ s. s.now) (spec.formal_of (form_of form.now)) result }
+{
+    match symbol(form) {
+        Some(name) => {
+            if is_variable_name(name) {
+                Ok(name)
+            } else {
+                Err(Halt::bad_part(alloc, "formals"))
+            }
+        }
+        None => Err(Halt::bad_part(alloc, "formals")),
     }
 }
 
 #[tactic(auto, using(crate::proofs::FormalLemmas::formals))]
-fn read_names(alloc: Global, forms: &[Form]) -> Result<Option<Symbols>, Memory>
+fn read_names(alloc: Global, forms: &[Form]) -> Result<Symbols, Halt>
     requires { AllProper forms.now }
-    ensures { IfOk result (λ xs. xs ≡ spec.names_of (map form_of forms.now)) }
+    ensures { Says (λ xs. xs) (spec.names_of (map form_of forms.now)) result }
 {
     let mut names = Symbols::new(alloc);
     for form in forms {
-        match formal(form) {
-            Some(name) => names.push(name.share()?)?,
-            None => return Ok(None),
-        }
+        let name = formal(alloc, form)?;
+        names.push(name.share()?)?;
     }
-    Ok(Some(names))
+    Ok(names)
 }
 
 fn is_among(names: &[Symbol], name: &Symbol) -> bool
@@ -54,64 +77,102 @@ fn is_among(names: &[Symbol], name: &Symbol) -> bool
     false
 }
 
+/// Refuses the first name that stands a second time.
 #[tactic(auto, using(crate::proofs::FormalLemmas::distinct_steps))]
-fn are_distinct(names: &[Symbol]) -> bool
-    ensures { result ≡ spec.are_distinct names.now }
+fn check_distinct(names: &[Symbol]) -> Result<(), Halt>
+    ensures { Says (λ x. x) (distinct_after [] names.now) result }
 {
     for (i, name) in names.iter().enumerate() {
-        if is_among(&names[i + 1..], name) {
-            return false;
+        if is_among(&names[..i], name) {
+            return Err(Halt::named(20, name));
         }
     }
-    true
+    Ok(())
 }
 
 /// At most 16 variable names, none of them twice.
-fn read_formals(alloc: Global, forms: &[Form]) -> Result<Option<Symbols>, Memory>
+fn read_formals(alloc: Global, forms: &[Form]) -> Result<Symbols, Halt>
     requires { AllProper forms.now }
-    ensures { IfOk result (λ xs. xs ≡ spec.formals_of (map form_of forms.now)) }
+    ensures { Says (λ xs. xs) (spec.formals_of (map form_of forms.now)) result }
 {
     if forms.len() > MAX_FORMALS {
-        return Ok(None);
+        return Err(Halt::bad_part(alloc, "formals"));
     }
-    match read_names(alloc, forms)? {
-        Some(names) => {
-            if are_distinct(names.as_slice()) {
-                Ok(Some(names))
-            } else {
-                Ok(None)
-            }
-        }
-        None => Ok(None),
+    let names = read_names(alloc, forms)?;
+    check_distinct(names.as_slice())?;
+    Ok(names)
+}
+
+/// Whether a term calls a function.
+#[cycle(mentions)]
+#[tactic(auto, using(terms::proofs::Args::args))]
+fn mentions(name: &Symbol, term: &Term) -> bool
+    ensures { result ≡ calls name.now term.now }
+{
+    match term.node() {
+        Node::Var(_) => false,
+        Node::Quote(_) => false,
+        Node::Call(called, args) => name.same(called) || mentioned_in(name, args.as_slice()),
     }
 }
 
-/// The definition of a function by its parts, or nothing where they make none.
+#[cycle(mentions)]
+#[tactic(auto, using(terms::proofs::Args::args))]
+fn mentioned_in(name: &Symbol, terms: &[Term]) -> bool
+    ensures { result ≡ mentions_in name.now (tms terms.now) }
+{
+    for term in terms {
+        if mentions(name, term) {
+            return true;
+        }
+    }
+    false
+}
+
+/// The body of a function over its formals, which doesn't call the function.
+fn read_body(
+    alloc: Global,
+    world: &World,
+    name: &Symbol,
+    formals: &Symbols,
+    body: &Form,
+) -> Result<Term, Halt>
+    requires { IsProper body.now }
+    ensures { Says (λ t. t) (spec.body_of world.now name.now formals.now (form_of body.now)) result }
+{
+    let functions = WithOwn {
+        world,
+        name,
+        arity: formals.len(),
+    };
+    let body = translate(alloc, body, &functions, &Scope::Only(formals))?;
+    if mentions(name, &body) {
+        return Err(Halt::not_an_event());
+    }
+    Ok(body)
+}
+
+/// The definition of a function by its parts.
 pub(crate) fn read_definition(
     alloc: Global,
     world: &World,
     name: &Symbol,
     formals: &[Form],
     body: &Form,
-) -> Result<Option<Definition>, Memory>
+) -> Result<Definition, Halt>
     requires formals { AllProper formals.now }
     requires body { IsProper body.now }
-    ensures { IfOk result (λ d. d ≡ spec.definition_of world.now name.now (map form_of formals.now) (form_of body.now)) }
+    ensures { Says (λ d. d) (spec.definition_of world.now name.now (map form_of formals.now) (form_of body.now)) result }
 {
-    let Some(formals) = read_formals(alloc, formals)? else {
-        return Ok(None);
-    };
-    let functions = SmallFunctions { world };
-    let Some(body) = read_term(alloc, body, &Scope::Only(&formals), &functions)? else {
-        return Ok(None);
-    };
+    let formals = read_formals(alloc, formals)?;
+    let body = read_body(alloc, world, name, &formals, body)?;
     let name = name.share()?;
-    Ok(Some(Definition {
+    Ok(Definition {
         name,
         formals,
         body,
         measure: None,
-    }))
+    })
 }
 
 /// Whether the sequent has the formula as its goal, and no universals and hypotheses.

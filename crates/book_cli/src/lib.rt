@@ -2,11 +2,12 @@
 #![tactic(auto)]
 
 mod definitions;
+mod halt;
 mod lines;
+mod own;
 mod program;
 mod refusal;
 mod report;
-mod small_functions;
 mod status;
 mod steps;
 mod stop;

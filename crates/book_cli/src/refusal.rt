@@ -1,16 +1,15 @@
-ghost use Rattle.std.specs.Prelude.{◌≡◌};
+ghost use Rattle.std.specs.Prelude.{◌≡◌, ◌++◌, IfOk, OnOk};
 ghost use Rattle.book_cli.specs.Refusals as spec;
 
 use kernel::RuleName;
-use lisp_data::Symbol;
-use std::fmt;
+use lisp_data::Detail;
+use lists::{Memory, Text};
+use std::alloc::Global;
 
 /// Why an event is refused (docs/BOOKS.md, "Refusals").
 pub enum Refusal {
-    /// The book can't be read on, by a code from 1 to 10.
-    Unreadable(u8),
-    NotAnEvent,
-    NameTaken(Symbol),
+    /// A refusal by its code: from 1 to 10 where the book can't be read on, and from 11 to 20 of an event.
+    Coded { code: u8, detail: Detail },
     /// The first node of the proof that concludes nothing, or the proof's last node and the claim that it doesn't prove.
     ProofWrong { node: u32, rule: RuleName },
 }
@@ -18,9 +17,7 @@ pub enum Refusal {
 impl Drop for Refusal {
     fn drop(self) {
         match self {
-            Refusal::Unreadable(_) => {}
-            Refusal::NotAnEvent => {}
-            Refusal::NameTaken(_) => {}
+            Refusal::Coded { code: _, detail: _ } => {}
             Refusal::ProofWrong { node: _, rule: _ } => {}
         }
     }
@@ -43,6 +40,24 @@ fn fault_word(code: u8) -> &'static str
     }
 }
 
+fn event_word(code: u8) -> &'static str
+    ensures { result.now ≡ spec.event_word code }
+{
+    match code {
+        11 => "NotAnEvent",
+        12 => "BadForm",
+        13 => "KeyNotKnown",
+        14 => "BookNotKnown",
+        15 => "TermTooLarge",
+        16 => "NameTaken",
+        17 => "UnknownName",
+        18 => "WrongArity",
+        19 => "UnboundVariable",
+        20 => "RepeatedFormal",
+        code => fault_word(code),
+    }
+}
+
 fn rule_word(rule: RuleName) -> &'static str
     ensures { result.now ≡ spec.rule_word rule }
 {
@@ -54,26 +69,49 @@ fn rule_word(rule: RuleName) -> &'static str
     }
 }
 
-impl fmt::Display for Refusal {
-    ghost use Rattle.std.specs.Prelude.{Some};
-    ghost use Rattle.book_cli.specs.Refusals.{refusal_text};
+/// Writes a detail behind a blank, where there is one.
+fn write_detail(alloc: Global, detail: &Detail, out: &mut Text) -> Result<(), Memory>
+    ensures { OnOk result (out.new ≡ out.old ++ spec.detail_after detail.now) }
+{
+    if let Detail::Absent = detail {
+        return Ok(());
+    }
+    out.push(b' ')?;
+    detail.write(alloc, out)
+}
 
-    ghost output = { λ r. Some (refusal_text r) };
+/// Code and word.
+fn coded_text(alloc: Global, code: u8) -> Result<Text, Memory>
+    ensures { IfOk result (λ text. text ≡ spec.coded_text code) }
+{
+    let word = event_word(code);
+    let text = format!(in alloc; "{code} {word}")?;
+    Text::from_slice(alloc, text.as_bytes())
+}
 
-    fn fmt<W: fmt::Write>(&self, f: &mut fmt::Formatter<W>) -> fmt::Result {
+/// Code, word and detail of a wrong proof.
+fn wrong_text(alloc: Global, node: u32, rule: RuleName) -> Result<Text, Memory>
+    ensures { IfOk result (λ text. text ≡ spec.wrong_text node rule) }
+{
+    let word = rule_word(rule);
+    let text = format!(in alloc; "32 ProofWrong :GOAL {node} {word}")?;
+    Text::from_slice(alloc, text.as_bytes())
+}
+
+impl Refusal {
+    /// Writes code, word and detail at the end of a text. Where there is no memory a part of it may be there.
+    pub(crate) fn write(&self, alloc: Global, out: &mut Text) -> Result<(), Memory>
+        ensures { OnOk result (out.new ≡ out.old ++ spec.refusal_text self.now) }
+    {
         match self {
-            Refusal::Unreadable(code) => {
-                let word = fault_word(*code);
-                write!(f, "{code} {word}")
-            }
-            Refusal::NotAnEvent => write!(f, "11 NotAnEvent"),
-            Refusal::NameTaken(name) => {
-                let text = name.text();
-                write!(f, "16 NameTaken {text}")
+            Refusal::Coded { code, detail } => {
+                let text = coded_text(alloc, *code)?;
+                out.extend(text.as_slice())?;
+                write_detail(alloc, detail, out)
             }
             Refusal::ProofWrong { node, rule } => {
-                let word = rule_word(*rule);
-                write!(f, "32 ProofWrong :GOAL {node} {word}")
+                let text = wrong_text(alloc, *node, *rule)?;
+                out.extend(text.as_slice())
             }
         }
     }

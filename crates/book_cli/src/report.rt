@@ -13,6 +13,7 @@ use crate::lines::{accepted_text, refused_text};
 use crate::refusal::Refusal;
 use crate::steps::{StepAnswer, step};
 use crate::stop::Stop;
+use lisp_data::Detail;
 use lisp_reader::{FormReader, Located, ReadError};
 use ports::{Sink, put_all};
 use std::alloc::Global;
@@ -117,7 +118,11 @@ fn write_fault<K: Sink>(
     ensures cause { IsErrOf result Stop.WriteFault → Rose (K.faults out.old) (K.faults out.new) }
     ensures later { K.faults out.old ≤ K.faults out.new }
 {
-    write_refusal(alloc, events, &Refusal::Unreadable(code), place, out)?;
+    let why = Refusal::Coded {
+        code,
+        detail: Detail::Absent,
+    };
+    write_refusal(alloc, events, &why, place, out)?;
     write_last(alloc, world, events, out)?;
     Ok(())
 }

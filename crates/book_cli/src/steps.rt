@@ -1,6 +1,6 @@
 //! The handling of one event.
 
-ghost use Rattle.std.specs.Prelude.{◌≡◌, ◌<◌, ◌^◌, ◌++◌, codes, map, IfOk, Some, true, false};
+ghost use Rattle.std.specs.Prelude.{◌≡◌, ◌<◌, ◌^◌, ◌++◌, codes, map, IfOk, IfSome, true, false};
 ghost use Rattle.lisp_data.specs.FormView.{form_of, IsProper, AllProper};
 ghost use Rattle.proof_objects.specs.ProofTrees.{steps};
 ghost use Rattle.worlds.specs.Names.{is_free};
@@ -8,23 +8,25 @@ ghost use Rattle.terms.specs.Sound.{add_definition, add_theorem};
 ghost use Rattle.terms.specs.Formed.{IsWellFormed};
 ghost use Rattle.terms.specs.Measures.{mentions};
 ghost use Rattle.kernel.specs.Concludes.{concludes};
-ghost use Rattle.event_forms.specs.Shapes.{Event, Defun, Defthm};
-ghost use Rattle.book_cli.specs.Events.{claim, definition_of};
-ghost use Rattle.book_cli.specs.SmallFunctions.{takes};
-ghost use Rattle.book_cli.specs.Verdicts.{of_event, of_definition, of_conclusion, Verdict};
-ghost use Rattle.book_cli.specs.Steps.{IsStep, IsAnswer};
+ghost use Rattle.event_forms.specs.Shapes.{Defun, Defthm};
+ghost use Rattle.event_forms.specs.ShapeView.{seen, if_given, HasProperParts};
+ghost use Rattle.book_cli.specs.Events.{claim};
+ghost use Rattle.book_cli.specs.Halts.{Judges};
+ghost use Rattle.book_cli.specs.Report.{ok_line, ok_text, event_name};
+ghost use Rattle.book_cli.specs.Verdicts.{of_event, of_proof, of_conclusion, verdict};
+ghost use Rattle.book_cli.specs.Steps.{IsStep};
 
-use crate::definitions::{proves, read_definition};
-use crate::lines::{defthm_line, defun_line};
+use crate::definitions::{check_name, proves, read_definition};
+use crate::halt::Halt;
+use crate::lines::{defthm_line, defun_line, in_package_line, include_book_line};
 use crate::refusal::Refusal;
-use crate::small_functions::SmallFunctions;
-use event_forms::{Event as EventForm, read_event, read_proof, read_term};
+use event_forms::{Event as EventForm, read_event, read_proof};
 use kernel::{CheckError, Proved, RuleName, check};
 use lisp_data::{Form, Memory, Symbol};
 use lists::Text;
 use proof_objects::{Proof, ProofNode};
 use std::alloc::Global;
-use terms::{Definition, Scope, Sequent, Term, Terms};
+use terms::{Definition, Scope, Sequent, Term, Terms, translate};
 use worlds::{World, WorldError};
 
 /// What the handling of an event answers.
@@ -35,47 +37,90 @@ pub(crate) enum StepAnswer {
     Refused(Refusal),
 }
 
+/// What an accepted event makes: a world, and a line of the report.
+pub(crate) struct Made {
+    pub world: World,
+    pub line: Text,
+}
+
+impl Drop for Made {
+    fn drop(self) {
+        let Made { world: _, line: _ } = self;
+    }
+}
+
+impl Made {
+    ghost use Rattle.book_cli.specs.declared.steps.StepAnswer.TheVariants.{Accepted};
+
+    fn into_answer(self) -> StepAnswer
+        ensures { result ≡ Accepted self.world self.line }
+    {
+        let Made { world, line } = self;
+        StepAnswer::Accepted(world, line)
+    }
+}
+
 /// Handles an event. The world stays as it is.
 pub(crate) fn step(alloc: Global, world: &World, form: &Form) -> Result<StepAnswer, Memory>
     requires { IsProper form.now }
     ensures { IfOk result (IsStep world.now (form_of form.now)) }
 {
-    match read_event(form) {
-        None => Ok(StepAnswer::Refused(Refusal::NotAnEvent)),
-        Some(EventForm::Defun(name, formals, body)) => {
-            let answer = step_defun(alloc, world, name, formals, body)?;
-            Ok(answer)
-        }
-        Some(EventForm::Defthm(name, formula, proof)) => {
-            let answer = step_defthm(alloc, world, name, formula, proof)?;
-            Ok(answer)
+    match judge_form(alloc, world, form) {
+        Ok(made) => Ok(made.into_answer()),
+        Err(halt) => match halt {
+            Halt::Refused(why) => Ok(StepAnswer::Refused(why)),
+            Halt::Memory => Err(Memory),
+        },
+    }
+}
+
+fn judge_form(alloc: Global, world: &World, form: &Form) -> Result<Made, Halt>
+    requires { IsProper form.now }
+    ensures { Judges (verdict world.now (form_of form.now)) (ok_line (form_of form.now)) result }
+{
+    let event = read_event(alloc, form)?;
+    judge_event(alloc, world, &event)
+}
+
+/// Judges an event by its parts.
+fn judge_event(alloc: Global, world: &World, event: &EventForm<'_>) -> Result<Made, Halt>
+    requires { HasProperParts event.now }
+    ensures { Judges (of_event world.now (seen event.now)) (ok_text (seen event.now)) result }
+{
+    match event {
+        EventForm::InPackage => Ok(Made {
+            world: world.share()?,
+            line: in_package_line(alloc)?,
+        }),
+        EventForm::IncludeBook(book) => Ok(Made {
+            world: world.share()?,
+            line: include_book_line(alloc, book)?,
+        }),
+        EventForm::Defun(name, formals, body) => judge_defun(alloc, world, name, formals, body),
+        EventForm::Defthm(name, formula, proof) => {
+            judge_defthm(alloc, world, name, formula, *proof)
         }
     }
 }
 
-fn step_defun(
+fn judge_defun(
     alloc: Global,
     world: &World,
     name: &Symbol,
     formals: &[Form],
     body: &Form,
-) -> Result<StepAnswer, Memory>
+) -> Result<Made, Halt>
     requires formals { AllProper formals.now }
     requires body { IsProper body.now }
-    ensures { IfOk result (IsAnswer (of_event world.now (Some (Defun name.now (map form_of formals.now) (form_of body.now)))) (codes "ok defun " ++ (name.now ++ codes "\n"))) }
+    ensures { Judges (of_event world.now (Defun name.now (map form_of formals.now) (form_of body.now))) (codes "ok " ++ ((codes "defun " ++ name.now) ++ codes "\n")) result }
 {
+    terms::translated_terms_fit();
     world.soundness();
-    if !world.is_free(name) {
-        return Ok(StepAnswer::Refused(Refusal::NameTaken(name.share()?)));
-    }
-    match read_definition(alloc, world, name, formals, body)? {
-        Some(definition) => {
-            let line = defun_line(alloc, name)?;
-            let next = with_definition(alloc, world, definition)?;
-            Ok(StepAnswer::Accepted(next, line))
-        }
-        None => Ok(StepAnswer::Refused(Refusal::NotAnEvent)),
-    }
+    check_name(alloc, world, name)?;
+    let definition = read_definition(alloc, world, name, formals, body)?;
+    let line = defun_line(alloc, name)?;
+    let world = with_definition(alloc, world, definition)?;
+    Ok(Made { world, line })
 }
 
 /// The world with one more function, whose name is free.
@@ -94,50 +139,48 @@ fn with_definition(alloc: Global, world: &World, definition: Definition) -> Resu
     }
 }
 
-fn step_defthm(
+fn judge_defthm(
     alloc: Global,
     world: &World,
     name: &Symbol,
     formula: &Form,
-    proof: &Form,
-) -> Result<StepAnswer, Memory>
+    proof: Option<&Form>,
+) -> Result<Made, Halt>
     requires formula { IsProper formula.now }
-    requires proof { IsProper proof.now }
-    ensures { IfOk result (IsAnswer (of_event world.now (Some (Defthm name.now (form_of formula.now) (form_of proof.now)))) (codes "ok defthm " ++ (name.now ++ codes "\n"))) }
+    requires proof { IfSome proof (λ p. IsProper p.now) }
+    ensures { Judges (of_event world.now (Defthm name.now (form_of formula.now) (if_given proof.entry (λ p. form_of p.now)))) (codes "ok " ++ ((codes "defthm " ++ name.now) ++ codes "\n")) result }
 {
-    if !world.is_free(name) {
-        return Ok(StepAnswer::Refused(Refusal::NameTaken(name.share()?)));
-    }
-    let functions = SmallFunctions { world };
-    let Some(formula) = read_term(alloc, formula, &Scope::Any, &functions)? else {
-        return Ok(StepAnswer::Refused(Refusal::NotAnEvent));
+    terms::translated_terms_fit();
+    world.soundness();
+    check_name(alloc, world, name)?;
+    let formula = translate(alloc, formula, world, &Scope::Any)?;
+    let Some(proof) = proof else {
+        return Err(Halt::not_an_event());
     };
-    let Some(proof) = read_proof(alloc, proof, &functions)? else {
-        return Ok(StepAnswer::Refused(Refusal::NotAnEvent));
-    };
-    let answer = judge(alloc, world, name, &formula, &proof)?;
-    Ok(answer)
+    let proof = read_proof(alloc, proof, world)?;
+    let made = judge_proof(alloc, world, name, &formula, &proof)?;
+    Ok(made)
 }
 
-/// Checks a theorem's proof, where its name is free.
-fn judge(
+/// Judges a theorem by its proof, where its name is free.
+fn judge_proof(
     alloc: Global,
     world: &World,
     name: &Symbol,
     formula: &Term,
     proof: &Proof,
-) -> Result<StepAnswer, Memory>
+) -> Result<Made, Halt>
     requires { is_free world.now name.now ≡ true }
-    ensures { IfOk result (IsAnswer (of_conclusion world.now name.now formula.now proof.now (concludes world.now proof.now)) (codes "ok defthm " ++ (name.now ++ codes "\n"))) }
+    ensures { Judges (of_conclusion world.now name.now formula.now proof.now (concludes world.now proof.now)) (codes "ok " ++ ((codes "defthm " ++ name.now) ++ codes "\n")) result }
 {
     match check(alloc, world, proof) {
         Ok(proved) => {
             if proves(proved.sequent(), formula) {
                 let line = defthm_line(alloc, name)?;
-                let next = with_claim(alloc, world, name, formula, &proved)?;
-                Ok(StepAnswer::Accepted(next, line))
+                let world = with_claim(alloc, world, name, formula, &proved)?;
+                Ok(Made { world, line })
             } else {
-                Ok(StepAnswer::Refused(Refusal::ProofWrong {
+                Err(Halt::Refused(Refusal::ProofWrong {
                     node: root_number(proof),
                     rule: RuleName::Claim,
                 }))
@@ -145,10 +188,10 @@ fn judge(
         }
         Err(error) => match error {
             CheckError::ProofWrong { node, rule } => {
-                Ok(StepAnswer::Refused(Refusal::ProofWrong { node, rule }))
+                Err(Halt::Refused(Refusal::ProofWrong { node, rule }))
             }
             CheckError::Limit { node: _, code: _ } => unreachable!(),
-            CheckError::Memory => Err(Memory),
+            CheckError::Memory => Err(Halt::Memory),
         },
     }
 }

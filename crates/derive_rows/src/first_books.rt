@@ -15,7 +15,7 @@ accepted 2 events 1 theorems
 
 #[test]
 fn accepted_books(rt: HostRuntime) -> Result<(), Fail> {
-    let rows: [(&[u8], &[u8]); 7] = [
+    let rows: [(&[u8], &[u8]); 8] = [
         (FIRST, FIRST_REPORT),
         (b"", b"accepted 0 events 0 theorems\n"),
         (
@@ -37,6 +37,10 @@ fn accepted_books(rt: HostRuntime) -> Result<(), Fail> {
         (
             b"(DEFTHM Same (EQUAL (if T x Y) (IF t X y)) :PROOF (:refl (if t x y)))",
             b"ok defthm SAME\naccepted 1 events 1 theorems\n",
+        ),
+        (
+            b"(defthm lists (equal (true-listp x) (if (consp x) (true-listp (cdr x)) (equal x nil))) :proof (:unfold (true-listp x)))",
+            b"ok defthm LISTS\naccepted 1 events 1 theorems\n",
         ),
     ];
     for (book, report) in rows {

@@ -4,7 +4,7 @@ use ports::{Calls, MemorySink, MemorySource, SureSink, SureSource};
 use std::test::Fail;
 
 /// The most bytes that a report here has.
-const ROOM: usize = 10_000;
+const ROOM: usize = 200_000;
 
 /// These words as a command.
 pub fn command(rt: &HostRuntime, words: &[&[u8]]) -> Result<Words, Fail> {

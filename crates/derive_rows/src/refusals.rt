@@ -38,28 +38,31 @@ fn order_of_checks(rt: HostRuntime) -> Result<(), Fail> {
             b"(defthm car (equal x x) :proof (:ring x x))",
             b"16 NameTaken CAR",
         ),
-        (b"(defun nil (x) x)", b"11 NotAnEvent"),
+        (b"(defun nil (x) x)", b"12 BadForm name"),
         // A wrong shape comes before a taken name.
-        (b"(defun car)", b"11 NotAnEvent"),
-        (b"(defun car (x) x x)", b"11 NotAnEvent"),
-        (b"(defthm car (equal x x) (:refl x))", b"11 NotAnEvent"),
+        (b"(defun car)", b"12 BadForm arguments"),
+        (b"(defun car (x) x x)", b"12 BadForm body"),
+        (
+            b"(defthm car (equal x x) (:refl x))",
+            b"12 BadForm arguments",
+        ),
         (
             b"(defthm car (equal x x) :prove (:refl x))",
-            b"11 NotAnEvent",
+            b"13 KeyNotKnown :PROVE",
         ),
-        (b"(defun (car) (x) x)", b"11 NotAnEvent"),
+        (b"(defun (car) (x) x)", b"12 BadForm name"),
         // No event.
         (b"5", b"11 NotAnEvent"),
         (b"(fly)", b"11 NotAnEvent"),
         (b"(defun . f)", b"11 NotAnEvent"),
         (b"'(defun f (x) x)", b"11 NotAnEvent"),
-        // Wrong formals and terms.
-        (b"(defun f (x x) x)", b"11 NotAnEvent"),
-        (b"(defun f (x) y)", b"11 NotAnEvent"),
+        // Wrong formals and terms; a body that calls its own function isn't there yet.
+        (b"(defun f (x x) x)", b"20 RepeatedFormal X"),
+        (b"(defun f (x) y)", b"19 UnboundVariable Y"),
         (b"(defun f (x) (f x))", b"11 NotAnEvent"),
-        (b"(defun f (x) (car x x))", b"11 NotAnEvent"),
-        (b"(defun f (x) (cons x . x))", b"11 NotAnEvent"),
-        (b"(defun f (x) \"x\")", b"11 NotAnEvent"),
+        (b"(defun f (x) (car x x))", b"18 WrongArity CAR"),
+        (b"(defun f (x) (cons x . x))", b"12 BadForm term"),
+        (b"(defun f (x) \"x\")", b"12 BadForm term"),
         // Wrong proofs, from the first bad node on.
         (
             b"(defthm no (equal x x) :proof (:replace (:refl y) (:refl x) (3)))",

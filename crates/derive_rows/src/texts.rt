@@ -1,32 +1,8 @@
 //! Short books, fault by fault.
 
-use crate::outcome::outcome;
+use crate::reports::{all_refused, refused, reported};
 use book_cli::Status;
 use std::test::Fail;
-
-/// Books whose first event is refused so.
-fn all_refused(rt: &HostRuntime, rows: &[(&[u8], &[u8])]) -> Result<(), Fail> {
-    for (book, why) in rows {
-        refused(rt, book, why)?;
-    }
-    Ok(())
-}
-
-fn refused(rt: &HostRuntime, book: &[u8], why: &[u8]) -> Result<(), Fail> {
-    let mut report = b"refused 1 ".as_slice().to_vec(rt.alloc())?;
-    report.extend_from_slice(why)?;
-    report.extend_from_slice(b"\naccepted 0 events 0 theorems\n")?;
-    reported(rt, book, report.as_slice(), Status::Refused)
-}
-
-fn reported(rt: &HostRuntime, book: &[u8], report: &[u8], wanted: Status) -> Result<(), Fail> {
-    let (status, held) = outcome(rt, &[b"check"], book)?;
-    if held.as_slice() == report && status == wanted {
-        return Ok(());
-    }
-    let text = str::from_utf8(held.as_slice()).unwrap_or("no text");
-    Err(Fail::new(format_args!("{text} for {book:?}")))
-}
 
 #[test]
 fn bad_bytes(rt: HostRuntime) -> Result<(), Fail> {
@@ -330,7 +306,7 @@ fn no_forms(rt: HostRuntime) -> Result<(), Fail> {
 
 #[test]
 fn function_spellings(rt: HostRuntime) -> Result<(), Fail> {
-    let rows: [(&[u8], &[u8]); 8] = [
+    let rows: [(&[u8], &[u8]); 9] = [
         (
             b"(defun f . ((x) x))",
             b"ok defun F\naccepted 1 events 0 theorems\n",
@@ -364,6 +340,10 @@ fn function_spellings(rt: HostRuntime) -> Result<(), Fail> {
             b"(defun f (x . 'y) quote)",
             b"ok defun F\naccepted 1 events 0 theorems\n",
         ),
+        (
+            b"(defun f (x) 'x)",
+            b"ok defun F\naccepted 1 events 0 theorems\n",
+        ),
     ];
     for (book, report) in rows {
         reported(&rt, book, report, Status::Accepted)?;
@@ -395,25 +375,28 @@ fn theorem_spellings(rt: HostRuntime) -> Result<(), Fail> {
 
 #[test]
 fn no_events(rt: HostRuntime) -> Result<(), Fail> {
-    let books: [&[u8]; 13] = [
-        b"()",
-        b"nil",
-        b"-5",
-        b"x )",
-        b"(defun f (x) . x)",
-        b"(defun f (x . y) x)",
-        b"(defun f (x) x . y)",
-        b"(defun f '() quote)",
-        b"(defun f (x) 'x)",
-        b"(defun 1 (x) x)",
-        b"(defun :f (x) x)",
-        b"(defun\"f\"(x)x)",
-        b"(defthm a (equal x x) ':proof (:refl x))",
-    ];
-    for book in books {
-        refused(&rt, book, b"11 NotAnEvent at 0")?;
-    }
-    refused(&rt, b" '(defun f (x) x)", b"11 NotAnEvent at 1")
+    all_refused(
+        &rt,
+        &[
+            (b"()", b"11 NotAnEvent at 0"),
+            (b"nil", b"11 NotAnEvent at 0"),
+            (b"-5", b"11 NotAnEvent at 0"),
+            (b"x )", b"11 NotAnEvent at 0"),
+            (b"(defun f (x) . x)", b"11 NotAnEvent at 0"),
+            (b"(defun f (x) x . y)", b"11 NotAnEvent at 0"),
+            (b" '(defun f (x) x)", b"11 NotAnEvent at 1"),
+            // Events with a wrong part.
+            (b"(defun f (x . y) x)", b"12 BadForm formals at 0"),
+            (b"(defun f '() quote)", b"12 BadForm formals at 0"),
+            (b"(defun 1 (x) x)", b"12 BadForm name at 0"),
+            (b"(defun :f (x) x)", b"12 BadForm name at 0"),
+            (b"(defun\"f\"(x)x)", b"12 BadForm name at 0"),
+            (
+                b"(defthm a (equal x x) ':proof (:refl x))",
+                b"12 BadForm arguments at 0",
+            ),
+        ],
+    )
 }
 
 /// Faults behind accepted events.

@@ -1,15 +1,14 @@
 -- The items of a form.
-use Rattle.std.proofs.Common.{◌<◌, length, arith, ◌≡◌, ℕ, false, List, [], ◌∷◌, map, bytes_eq, codes, Some, None, option_map, refl, ap, ◌∙◌, Global, if◌then◌else◌}
+use Rattle.std.proofs.Common.{◌<◌, get_or, length, arith, ◌≡◌, ℕ, false, List, [], ◌∷◌, map, bytes_eq, codes, Option, Some, None, option_map, refl, ap, ◌∙◌, Global, if◌then◌else◌}
 use Rattle.std.specs.declared.rc.Rc.{Rc}
 use Rattle.lisp_data.specs.Datum.{Datum, nil_form, chain}
-use Rattle.lisp_data.specs.FormView.{form_of, forms_of, items_of as held_by, IsProper, IsEnd, AllProper}
+use Rattle.lisp_data.specs.FormView.{form_of, forms_of, items_of as held_by, IsProper, IsEnd, AllProper, end_of}
 use Rattle.lisp_data.specs.declared.form.Forms.{Forms}
 use Rattle.lisp_data.specs.declared.form.Form.{Form, Int, Sym, Text, List as Listed, List'}
 use Rattle.lisp_data.proofs.Chains.{form_of-list, form_of-dotted, form_of-int, form_of-sym, form_of-text}
-use Rattle.lisp_data.proofs.Proper.{proper-list}
+use Rattle.lisp_data.proofs.Proper.{proper-list, proper-more, form_of-listed}
 use Rattle.terms.proofs.Names.{name_apart}
-use Rattle.event_forms.specs.Lists.{items_of}
-use Rattle.event_forms.specs.Shapes.{symbol_of}
+use Rattle.event_forms.specs.Lists.{items_of, symbol_of, text_of}
 
 pub items_of-chain : (fs : List Datum) → items_of (chain fs nil_form) ≡ Some fs
 items_of-chain [] = refl
@@ -47,10 +46,20 @@ pair_first [] end h = absurd (omega arith)
 pair_first (x ∷ xs) end h = refl
 
 -- a list is no symbol
-pub symbol_of-list : (fs : Forms) → IsProper (Listed fs None) → symbol_of (form_of (Listed fs None)) ≡ None
-symbol_of-list fs h = ap symbol_of (form_of-list fs) ∙ pair_first (held_by fs) nil_form (proper-list fs None h).some
+pub symbol_of-list : (fs : Forms) (t : Option (Rc Form Global)) → IsProper (Listed fs t) → symbol_of (form_of (Listed fs t)) ≡ None
+symbol_of-list fs t h = ap symbol_of (form_of-listed fs t) ∙ pair_first (held_by fs) (end_of t) (proper-list fs t h).some
 
-pub symbol_of-pointed : (fs : Forms) (t : Rc Form Global) → IsProper (Listed fs (Some t)) → symbol_of (form_of (Listed fs (Some t))) ≡ None
-symbol_of-pointed fs t h = ap symbol_of (form_of-dotted fs t) ∙ pair_first (held_by fs) (form_of t.value) (proper-list fs (Some t) h).some
+pub ruleset no_symbols = (symbol_of-list, form_of-int, form_of-sym, form_of-text)
 
-pub ruleset no_symbols = (symbol_of-list, symbol_of-pointed, form_of-int, form_of-sym, form_of-text)
+no_text_first : (xs : List Form) (end : Datum) → 0 < length xs → text_of (chain (map form_of xs) end) ≡ None
+no_text_first [] end h = absurd (omega arith)
+no_text_first (x ∷ xs) end h = refl
+
+-- a list is no string
+pub text_of-list : (fs : Forms) (t : Option (Rc Form Global)) → IsProper (Listed fs t) → text_of (form_of (Listed fs t)) ≡ None
+text_of-list fs t h = ap text_of (form_of-listed fs t) ∙ no_text_first (held_by fs) (end_of t) (proper-list fs t h).some
+
+pub ruleset no_texts = (text_of-list, form_of-int, form_of-sym, form_of-text)
+
+pub proper_at : (xs : List Form) (i : ℕ) (x : Form) → i < length xs → x ≡ get_or xs i x → AllProper xs → IsProper x
+proper_at xs i x h e p = proper-more xs i x h e p

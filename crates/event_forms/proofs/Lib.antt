@@ -1,5 +1,4 @@
-pub mod NameLemmas
 pub mod ItemLemmas
-pub mod TermLemmas
+pub mod DeclarationLemmas
+pub mod KeyLemmas
 pub mod ProofLemmas
-pub mod Fits

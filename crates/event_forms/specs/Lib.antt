@@ -1,7 +1,8 @@
-pub mod Names
 pub mod Lists
+pub mod Refused
+pub mod ErrorView
+pub mod Keys
+pub mod Declarations
 pub mod Shapes
 pub mod ShapeView
-pub mod SmallTerms
-pub mod ScopeView
 pub mod ProofTexts

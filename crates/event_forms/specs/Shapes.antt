@@ -1,41 +1,99 @@
 -- The shapes of events.
-use Rattle.std.specs.Prelude.{ℕ, Bool, false, if◌then◌else◌, bytes_eq, codes, List, [], ◌∷◌, Option, Some, None, option_and_then}
-use Rattle.std.specs.Option.{option_map_or}
+use Rattle.std.specs.Prelude.{ℕ, Bool, true, false, if◌then◌else◌, bytes_eq, codes, List, [], ◌∷◌, Option, Some, None, Ok}
 use Rattle.lisp_data.specs.Values.{Name}
-use Rattle.lisp_data.specs.Datum.{Datum, SymForm}
-use Rattle.event_forms.specs.Names.{is_function_name}
-use Rattle.event_forms.specs.Lists.{items_of}
+use Rattle.lisp_data.specs.Datum.{Datum}
+use Rattle.terms.specs.Worlds.{is_in}
+use Rattle.terms.specs.Translation.{Outcome, and_then, map_outcome}
+use Rattle.event_forms.specs.Lists.{items_of, is_word, symbol_of, text_of}
+use Rattle.event_forms.specs.Refused.{not_an_event, bad_part, unknown_book, or_refused}
+use Rattle.event_forms.specs.Keys.{keys, value_of, has_unbuilt}
+use Rattle.event_forms.specs.Declarations.{body_of, declares_unbuilt}
+use Rattle.event_forms.specs.declared.keys.Keyed.TheVariants.{Theorem, Book}
 
--- an event's parts: of a function its name, formals and body, of a theorem its name, formula and proof
+-- An event's parts: of a function its name, formals and body, of a theorem its name, its formula and its proof, if it has one.
 pub data Event : Type 0 where
+  InPackage : Event
+  IncludeBook : (book : List ℕ) → Event
   Defun : (name : Name) (formals : List Datum) (body : Datum) → Event
-  Defthm : (name : Name) (formula proof : Datum) → Event
+  Defthm : (name : Name) (formula : Datum) (proof : Option Datum) → Event
 
-abbrev pub symbol_of : Datum → Option Name
-symbol_of (SymForm s) = Some s
-symbol_of _ = None
+-- the books that may be included
+unfoldable pub books : List (List ℕ)
+books =
+    codes "kestrel/soft/top" ∷ codes "kestrel/apt/top" ∷ codes "kestrel/apt/restrict" ∷ codes "kestrel/apt/isodata"
+    ∷ codes "kestrel/apt/tailrec" ∷ codes "kestrel/apt/schemalg" ∷ codes "kestrel/apt/solve" ∷ []
 
--- the name of a function or a theorem
-abbrev pub name_of : Datum → Option Name
-name_of form = option_and_then (λ s. if is_function_name s then Some s else None) (symbol_of form)
+-- a string in a place where one has to stand
+abbrev pub string_of : Datum → Outcome (List ℕ)
+string_of form = or_refused (bad_part (codes "arguments")) (text_of form)
 
-abbrev pub is_word : List ℕ → Datum → Bool
-is_word word form = option_map_or (λ s. bytes_eq s word) (symbol_of form) false
+-- the package of every book
+abbrev pub only_package : Datum → Outcome (Unit {0})
+only_package form = and_then (string_of form) (λ s. if bytes_eq s (codes "ACL2") then Ok tt else unknown_book s)
 
--- (defun f (x ..) body)
-abbrev pub defun_of : Datum → Datum → Datum → Option Event
-defun_of name formals body = option_and_then (λ n. option_and_then (λ xs. Some (Defun n xs body)) (items_of formals)) (name_of name)
+-- `(in-package "ACL2")`
+abbrev pub in_package : List Datum → Outcome Event
+in_package [] = bad_part (codes "arguments")
+in_package (p ∷ []) = map_outcome (λ _. InPackage) (only_package p)
+in_package (p ∷ q ∷ parts) = and_then (only_package p) (λ _. bad_part (codes "arguments"))
 
--- (defthm n formula :proof P)
-abbrev pub defthm_of : Datum → Datum → Datum → Datum → Option Event
-defthm_of name formula key proof = if is_word (codes ":PROOF") key then option_and_then (λ n. Some (Defthm n formula proof)) (name_of name) else None
+-- `(include-book "NAME" :dir :system)`, with or without the key
+abbrev pub include_book : List Datum → Outcome Event
+include_book [] = bad_part (codes "arguments")
+include_book (p ∷ parts) =
+    and_then (string_of p) (λ s. if is_in books s then map_outcome (λ seen. IncludeBook s) (keys Book [] parts) else unknown_book s)
+
+abbrev pub name_of : Datum → Outcome Name
+name_of form = or_refused (bad_part (codes "name")) (symbol_of form)
+
+abbrev pub formals_of : Datum → Outcome (List Datum)
+formals_of form = or_refused (bad_part (codes "formals")) (items_of form)
+
+-- `(defun f (x ..) part .. body)`, from the formals on
+abbrev pub defun_after : Name → List Datum → Outcome Event
+defun_after f [] = bad_part (codes "arguments")
+defun_after f (xs ∷ []) = and_then (formals_of xs) (λ xs. bad_part (codes "arguments"))
+defun_after f (xs ∷ p ∷ ps) = and_then (formals_of xs) (λ xs. map_outcome (Defun f xs) (body_of [] p ps))
+
+abbrev pub defun_of : List Datum → Outcome Event
+defun_of [] = bad_part (codes "arguments")
+defun_of (f ∷ parts) = and_then (name_of f) (λ f. defun_after f parts)
+
+-- `(defthm n formula key value ..)`
+abbrev pub defthm_after : Name → List Datum → Outcome Event
+defthm_after n [] = bad_part (codes "arguments")
+defthm_after n (formula ∷ parts) = map_outcome (λ seen. Defthm n formula (value_of (codes ":PROOF") parts)) (keys Theorem [] parts)
+
+abbrev pub defthm_of : List Datum → Outcome Event
+defthm_of [] = bad_part (codes "arguments")
+defthm_of (n ∷ parts) = and_then (name_of n) (λ n. defthm_after n parts)
+
+-- keys that aren't there yet make a form no event, whatever else is wrong with it
+abbrev pub is_early_defun : List Datum → Bool
+is_early_defun (f ∷ xs ∷ p ∷ ps) = declares_unbuilt p ps
+is_early_defun _ = false
+
+abbrev pub is_early_defthm : List Datum → Bool
+is_early_defthm (n ∷ formula ∷ parts) = has_unbuilt Theorem true parts
+is_early_defthm _ = false
+
+abbrev pub defun : List Datum → Outcome Event
+defun parts = if is_early_defun parts then not_an_event else defun_of parts
+
+abbrev pub defthm : List Datum → Outcome Event
+defthm parts = if is_early_defthm parts then not_an_event else defthm_of parts
 
 -- an event by its word and its parts
-abbrev pub by_parts : List Datum → Option Event
-by_parts (word ∷ a ∷ b ∷ c ∷ []) = if is_word (codes "DEFUN") word then defun_of a b c else None
-by_parts (word ∷ a ∷ b ∷ c ∷ d ∷ []) = if is_word (codes "DEFTHM") word then defthm_of a b c d else None
-by_parts _ = None
+abbrev pub by_parts : Option (List Datum) → Outcome Event
+by_parts None = not_an_event
+by_parts (Some []) = not_an_event
+by_parts (Some (word ∷ parts)) =
+    if is_word (codes "DEFUN") word then defun parts
+    else if is_word (codes "DEFTHM") word then defthm parts
+    else if is_word (codes "IN-PACKAGE") word then in_package parts
+    else if is_word (codes "INCLUDE-BOOK") word then include_book parts
+    else not_an_event
 
--- the event that a form is, if it is one
-abbrev pub event_of : Datum → Option Event
-event_of form = option_and_then by_parts (items_of form)
+-- the event that a form is, or the first refusal of its shape, from left to right
+abbrev pub event_of : Datum → Outcome Event
+event_of form = by_parts (items_of form)

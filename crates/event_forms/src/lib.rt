@@ -1,14 +1,17 @@
-//! The forms of events: their shapes, and the terms and proofs in them.
+//! The forms of events: their shapes, and the proofs in them.
 #![tactic(auto)]
 
-mod names;
+mod declarations;
+mod errors;
+mod keys;
 mod parts;
 mod proofs_of;
 mod shapes;
-mod terms_of;
+#[cfg(test)]
+mod tests;
 
-pub use names::{is_function_name, is_variable_name};
-pub use parts::items;
+pub use errors::EventError;
+pub use keys::Keyed;
+pub use parts::{items, symbol};
 pub use proofs_of::read_proof;
-pub use shapes::{Event, read_event, symbol};
-pub use terms_of::{contains, read_term};
+pub use shapes::{Event, read_event};

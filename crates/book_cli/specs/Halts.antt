@@ -1,0 +1,48 @@
+-- What ends the handling of an event.
+use Rattle.std.specs.Prelude.{◌≡◌, ℕ, List, Result, Ok, Err}
+use Rattle.lisp_data.specs.declared.detail.Detail.{Detail}
+use Rattle.terms.specs.Worlds.{World}
+use Rattle.terms.specs.Translation.{Outcome}
+use Rattle.terms.specs.declared.translation.TermError.{TermError}
+use Rattle.terms.specs.declared.translation.TermError.TheVariants as term
+use Rattle.event_forms.specs.declared.errors.EventError.{EventError}
+use Rattle.event_forms.specs.declared.errors.EventError.TheVariants as event
+use Rattle.book_cli.specs.Verdicts as verdict
+use Rattle.book_cli.specs.Verdicts.{Verdict}
+use Rattle.book_cli.specs.declared.refusal.Refusal.{Refusal}
+use Rattle.book_cli.specs.declared.refusal.Refusal.TheVariants.{Coded, ProofWrong}
+use Rattle.book_cli.specs.declared.halt.Halt.{Halt}
+use Rattle.book_cli.specs.declared.halt.Halt.TheVariants.{Refused, Memory}
+use Rattle.book_cli.specs.declared.steps.Made.{Made}
+
+-- what an error says, where it isn't want of memory
+abbrev pub IsCoded : ℕ → Detail → Halt → Type 0
+IsCoded code detail (Refused (Coded c d)) = (c ≡ code) × (d ≡ detail)
+IsCoded code detail (Refused (ProofWrong node rule)) = ⊥
+IsCoded code detail Memory = Unit {0}
+
+-- an error is the outcome's refusal, or want of memory
+abbrev pub IsRefusal : {A : Type 0} → Outcome A → Halt → Type 0
+IsRefusal o (Refused (Coded code detail)) = o ≡ Err (code, detail)
+IsRefusal o (Refused (ProofWrong node rule)) = ⊥
+IsRefusal o Memory = Unit {0}
+
+-- the answer is the outcome's: what is read, as it is seen, or its refusal
+abbrev pub Says : {A B : Type 0} → (A → B) → Outcome B → Result A Halt → Type 0
+Says seen o (Ok x) = o ≡ Ok (seen x)
+Says seen o (Err e) = IsRefusal o e
+
+-- an error of a form, as what ends the handling of its event
+abbrev pub IsFromEvent : EventError → Halt → Type 0
+IsFromEvent (event.Refused code detail) e = e ≡ Refused (Coded code detail)
+IsFromEvent event.Memory e = e ≡ Memory
+
+abbrev pub IsFromTerm : TermError → Halt → Type 0
+IsFromTerm (term.Refused code detail) e = e ≡ Refused (Coded code detail)
+IsFromTerm term.Memory e = e ≡ Memory
+
+-- the answer is the verdict's; what is accepted has this line
+abbrev pub Judges : Verdict → List ℕ → Result Made Halt → Type 0
+Judges v ok (Ok made) = (v ≡ verdict.Accepted made.world) × (made.line ≡ ok)
+Judges v ok (Err (Refused why)) = v ≡ verdict.Refused why
+Judges v ok (Err Memory) = Unit {0}

@@ -1,0 +1,60 @@
+-- Declarations of functions.
+use Rattle.std.specs.Prelude.{Bool, true, false, ◌&&◌, ◌||◌, if◌then◌else◌, codes, is_some, List, [], ◌∷◌, Option, Some, None, Ok}
+use Rattle.std.specs.List.{list_all, list_any}
+use Rattle.lisp_data.specs.Values.{Name}
+use Rattle.lisp_data.specs.Datum.{Datum}
+use Rattle.terms.specs.Translation.{Outcome, and_then}
+use Rattle.event_forms.specs.Lists.{items_of, is_word, symbol_of, text_of}
+use Rattle.event_forms.specs.Refused.{bad_part}
+use Rattle.event_forms.specs.Keys.{keys, has_unbuilt}
+use Rattle.event_forms.specs.declared.keys.Keyed.TheVariants.{Function}
+
+abbrev pub is_symbol : Datum → Bool
+is_symbol form = is_some (symbol_of form)
+
+-- `(xargs key value ..)`, `(ignore x ..)` or `(ignorable x ..)`, after keys that were seen
+abbrev pub declared : List Name → Option (List Datum) → Outcome (List Name)
+declared seen None = bad_part (codes "declare")
+declared seen (Some []) = bad_part (codes "declare")
+declared seen (Some (word ∷ parts)) =
+    if is_word (codes "XARGS") word then keys Function seen parts
+    else if is_word (codes "IGNORE") word || is_word (codes "IGNORABLE") word then (if list_all is_symbol parts then Ok seen else bad_part (codes "declare"))
+    else bad_part (codes "declare")
+
+abbrev pub all_declared : List Name → List Datum → Outcome (List Name)
+all_declared seen [] = Ok seen
+all_declared seen (d ∷ ds) = and_then (declared seen (items_of d)) (λ seen. all_declared seen ds)
+
+-- a list that begins with DECLARE
+abbrev pub declare_list : Option (List Datum) → Option (List Datum)
+declare_list None = None
+declare_list (Some []) = None
+declare_list (Some (word ∷ ds)) = if is_word (codes "DECLARE") word then Some ds else None
+
+abbrev pub of_declare : List Name → Option (List Datum) → Outcome (List Name)
+of_declare seen None = bad_part (codes "body")
+of_declare seen (Some ds) = all_declared seen ds
+
+-- a part before the body: a string or a declaration
+abbrev pub before_body : List Name → Datum → Outcome (List Name)
+before_body seen form = if is_some (text_of form) then Ok seen else of_declare seen (declare_list (items_of form))
+
+-- the last part is the body
+abbrev pub body_of : List Name → Datum → List Datum → Outcome Datum
+body_of seen part [] = Ok part
+body_of seen part (p ∷ ps) = and_then (before_body seen part) (λ seen. body_of seen p ps)
+
+-- a declared list of keys has one that isn't there yet
+abbrev pub is_early : Option (List Datum) → Bool
+is_early None = false
+is_early (Some []) = false
+is_early (Some (word ∷ parts)) = is_word (codes "XARGS") word && has_unbuilt Function true parts
+
+abbrev pub any_early : Option (List Datum) → Bool
+any_early None = false
+any_early (Some ds) = list_any (λ d. is_early (items_of d)) ds
+
+-- a part before the body has one
+abbrev pub declares_unbuilt : Datum → List Datum → Bool
+declares_unbuilt part [] = false
+declares_unbuilt part (p ∷ ps) = any_early (declare_list (items_of part)) || declares_unbuilt p ps

@@ -1,0 +1,162 @@
+//! Declarations of functions.
+
+ghost use Rattle.std.specs.Prelude.{◌≡◌, [], map, option_map, IfSome, IfOk};
+ghost use Rattle.std.specs.List.{list_all, list_any};
+ghost use Rattle.std.specs.Option.{option_copied};
+ghost use Rattle.lisp_data.specs.FormView.{form_of, IsProper, AllProper};
+ghost use Rattle.event_forms.specs.Lists as lists;
+ghost use Rattle.event_forms.specs.Declarations as spec;
+ghost use Rattle.event_forms.specs.Refused.{Says};
+
+use crate::errors::EventError;
+use crate::keys::{Keyed, has_unbuilt, read_keys};
+use crate::parts::{is_word, items, symbol, text};
+use lisp_data::{Form, Symbols};
+use std::alloc::Global;
+
+#[tactic(auto, using(crate::proofs::ItemLemmas::proper_at))]
+fn all_symbols(forms: &[Form]) -> bool
+    requires { AllProper forms.now }
+    ensures { result ≡ list_all spec.is_symbol (map form_of forms.now) }
+{
+    for form in forms {
+        if symbol(form).is_none() {
+            return false;
+        }
+    }
+    true
+}
+
+/// The keys that were seen and those of a declaration: `(xargs key value ..)`, `(ignore x ..)` or `(ignorable x ..)`.
+fn read_declaration(alloc: Global, seen: Symbols, declaration: &Form) -> Result<Symbols, EventError>
+    requires { IsProper declaration.now }
+    ensures { Says (λ keys. keys) (spec.declared seen (lists.items_of (form_of declaration.now))) result }
+{
+    let Some(items) = items(declaration) else {
+        return Err(EventError::bad_part(alloc, "declare"));
+    };
+    let [word, parts @ ..] = items else {
+        return Err(EventError::bad_part(alloc, "declare"));
+    };
+    if is_word(word, "XARGS") {
+        let keys = read_keys(alloc, Keyed::Function, seen, parts)?;
+        Ok(keys)
+    } else if (is_word(word, "IGNORE") || is_word(word, "IGNORABLE")) && all_symbols(parts) {
+        Ok(seen)
+    } else {
+        Err(EventError::bad_part(alloc, "declare"))
+    }
+}
+
+/// What a list declares that begins with DECLARE.
+fn declarations(part: &Form) -> Option<&[Form]>
+    requires { IsProper part.now }
+    ensures value { option_map (map form_of) (option_copied result) ≡ spec.declare_list (lists.items_of (form_of part.now)) }
+    ensures proper { IfSome result (λ items. AllProper items.now) }
+{
+    match items(part)? {
+        [word, declarations @ ..] => {
+            if is_word(word, "DECLARE") {
+                Some(declarations)
+            } else {
+                None
+            }
+        }
+        [] => None,
+    }
+}
+
+/// The keys that were seen and those of declarations.
+#[tactic(auto, using(crate::proofs::ItemLemmas::proper_at))]
+fn read_declarations(
+    alloc: Global,
+    mut seen: Symbols,
+    declarations: &[Form],
+) -> Result<Symbols, EventError>
+    requires { AllProper declarations.now }
+    ensures { Says (λ keys. keys) (spec.all_declared seen (map form_of declarations.now)) result }
+{
+    for declaration in declarations {
+        seen = read_declaration(alloc, seen, declaration)?;
+    }
+    Ok(seen)
+}
+
+/// The keys that were seen and those of a part before the body: a string or a list that begins with DECLARE.
+fn before_body(alloc: Global, seen: Symbols, part: &Form) -> Result<Symbols, EventError>
+    requires { IsProper part.now }
+    ensures { Says (λ keys. keys) (spec.before_body seen (form_of part.now)) result }
+{
+    if text(part).is_some() {
+        return Ok(seen);
+    }
+    match declarations(part) {
+        Some(declarations) => {
+            let keys = read_declarations(alloc, seen, declarations)?;
+            Ok(keys)
+        }
+        None => Err(EventError::bad_part(alloc, "body")),
+    }
+}
+
+/// The body of a function: the last of its parts behind the formals.
+#[tactic(auto, using(crate::proofs::DeclarationLemmas::parts))]
+pub(crate) fn body<'a>(
+    alloc: Global,
+    first: &'a Form,
+    rest: &'a [Form],
+) -> Result<&'a Form, EventError>
+    requires first { IsProper first.now }
+    requires rest { AllProper rest.now }
+    ensures body { Says (λ body. form_of body.now) (spec.body_of [] (form_of first.now) (map form_of rest.now)) result }
+    ensures proper { IfOk result (λ body. IsProper body.now) }
+{
+    let mut seen = Symbols::new(alloc);
+    let mut part = first;
+    for next in rest {
+        seen = before_body(alloc, seen, part)?;
+        part = next;
+    }
+    Ok(part)
+}
+
+/// Whether a declaration has a key that isn't there yet.
+fn is_early(declaration: &Form) -> bool
+    requires { IsProper declaration.now }
+    ensures { result ≡ spec.is_early (lists.items_of (form_of declaration.now)) }
+{
+    match items(declaration) {
+        Some([word, parts @ ..]) => is_word(word, "XARGS") && has_unbuilt(Keyed::Function, parts),
+        _ => false,
+    }
+}
+
+#[tactic(auto, using(crate::proofs::ItemLemmas::proper_at))]
+fn any_early(declarations: &[Form]) -> bool
+    requires { AllProper declarations.now }
+    ensures { result ≡ list_any (λ d. spec.is_early (lists.items_of d)) (map form_of declarations.now) }
+{
+    for declaration in declarations {
+        if is_early(declaration) {
+            return true;
+        }
+    }
+    false
+}
+
+/// Whether a part before the body declares a key that isn't there yet.
+#[tactic(auto, using(crate::proofs::DeclarationLemmas::parts))]
+pub(crate) fn declares_unbuilt(first: &Form, rest: &[Form]) -> bool
+    requires first { IsProper first.now }
+    requires rest { AllProper rest.now }
+    ensures { result ≡ spec.declares_unbuilt (form_of first.now) (map form_of rest.now) }
+{
+    let mut part = first;
+    for next in rest {
+        if declarations(part).is_some_and(any_early) {
+            return true;
+        }
+        part = next;
+    }
+    false
+}
