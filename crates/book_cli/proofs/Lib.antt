@@ -3,3 +3,6 @@ pub mod WellFormed
 pub mod ReportLemmas
 pub mod StepLemmas
 pub mod RunLemmas
+pub mod CommandReading
+pub mod CommandWalk
+pub mod CommandEnds

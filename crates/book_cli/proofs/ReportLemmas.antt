@@ -1,16 +1,17 @@
 -- How a report is written piece by piece.
-use Rattle.std.proofs.Common.{◌≡◌, ℕ, ◌+◌, ◌≤◌, true, false, Bool, List, [], ◌∷◌, ◌++◌, length, take, Option, Some, None, Result, Ok, Err, OnErr, refl, ap, sym, ◌∙◌, subst, arith, append_assoc, length-append}
+use Rattle.std.proofs.Common.{◌≡◌, ℕ, ◌+◌, ◌-◌, ◌≤◌, true, false, Bool, not, ◌||◌, ◌&&◌, List, [], ◌∷◌, ◌++◌, length, take, drop, get_or, Option, Some, None, Result, Ok, Err, OnErr, if◌then◌else◌, refl, ap, sym, ◌∙◌, subst, arith, append_assoc, length-append}
 use Rattle.std.proofs.lemmas.List.{append-nil, take-append-le}
-use Rattle.std.proofs.Math.Seq.{take-append-add}
+use Rattle.std.proofs.Math.Seq.{take-append-add, take-length}
 use Rattle.lisp_data.specs.Datum.{Datum}
 use Rattle.ports.specs.Streams.{Grows, GrowsByFront}
 use Rattle.ports.proofs.Streams.{Grows-trans}
 use Rattle.terms.specs.Worlds.{World}
+use Rattle.book_cli.specs.declared.progress.Progress.{Progress}
 use Rattle.book_cli.specs.declared.refusal.Refusal.{Refusal}
 use Rattle.book_cli.specs.Begun.{IsBegun}
 use Rattle.book_cli.specs.Steps.{IsNext}
 use Rattle.book_cli.specs.Verdicts.{Verdict, Accepted, Refused, verdict}
-use Rattle.book_cli.specs.Report.{Read, on_verdict, event_line, turn_lines, end_lines, report_from, world_from, all_accepted, accepts, last_line}
+use Rattle.book_cli.specs.Report.{Read, all_lines, after, is_refusal, goes_on, event_line, turn_lines, end_lines, report_from, world_from, all_accepted, accepts, last_line}
 
 module _ (a b c : Option (List ℕ)) where
   -- a piece more
@@ -50,75 +51,150 @@ pub on_err : {T E : Type 0} {P : Type 0} (r : Result T E) → P → OnErr r P
 on_err (Ok x) p = tt
 on_err (Err e) p = p
 
-on_next : {A : Type 0} (v : Verdict) (old new : World) (f : World → A) (g : A) → IsNext v old new true → on_verdict v f (λ why. g) ≡ f new
-on_next (Accepted next) old new f g h = ap f (sym h.1)
-on_next (Refused why) old new f g h = cc
+-- an event that is accepted, or after which the run continues, and one with which it ends
+goes : (continues : Bool) (v : Verdict) (accepted : Bool) → accepted ≡ not (is_refusal v) → (accepted || continues) ≡ true → goes_on continues v ≡ true
+goes continues (Accepted next) accepted e h = refl
+goes continues (Refused why) accepted e h = ap (λ b. b || continues) (sym e) ∙ h
 
-on_stop : {A : Type 0} (v : Verdict) (old new : World) (f : World → A) (g : World → A) → IsNext v old new false → on_verdict v f (λ why. g old) ≡ g new
-on_stop (Accepted next) old new f g h = cc
-on_stop (Refused why) old new f g h = ap g (sym h.1)
-
-module _ (W next : World) (events : ℕ) (e : Datum × ℕ) where
-  pub turn_goes : IsNext (verdict W e.0) W next true → turn_lines W events e ≡ event_line W events e
-  turn_goes n = ap (λ x. event_line W events e ++ x) (on_next (verdict W e.0) W next (λ w. []) (last_line events W) n) ∙ append-nil (event_line W events e)
-
-  pub turn_stops : IsNext (verdict W e.0) W next false → turn_lines W events e ≡ event_line W events e ++ last_line events next
-  turn_stops n = ap (λ x. event_line W events e ++ x) (on_stop (verdict W e.0) W next (λ w. []) (last_line events) n)
+stops : (continues : Bool) (v : Verdict) (accepted : Bool) → accepted ≡ not (is_refusal v) → (accepted || continues) ≡ false → goes_on continues v ≡ false
+stops continues (Accepted next) accepted e h = absurd (cc)
+stops continues (Refused why) accepted e h = ap (λ b. b || continues) (sym e) ∙ h
 
 -- what comes after an event's lines
-abbrev pub after_turn : World → ℕ → Datum × ℕ → Read → List ℕ
-after_turn W events e rest = on_verdict (verdict W e.0) (λ next. report_from next (events + 1) rest.0 rest.1) (λ why. [])
+abbrev pub after_turn : Bool → Progress → Datum × ℕ → Read → List ℕ
+after_turn continues p e rest = if goes_on continues (verdict p.world e.0) then report_from continues (after p (verdict p.world e.0)) rest.0 rest.1 else []
 
 -- where an event stands first
-module _ (W next : World) (events : ℕ) (e : Datum × ℕ) (read rest : Read) (first : read ≡ (e ∷ rest.0, rest.1)) where
-  pub report_split : report_from W events read.0 read.1 ≡ turn_lines W events e ++ after_turn W events e rest
-  report_split = ap (λ (r : Read). report_from W events r.0 r.1) first ∙ by_verdict (event_line W events e) (verdict W e.0)
+module _ (continues : Bool) (p : Progress) (e : Datum × ℕ) (read rest : Read) (first : read ≡ (e ∷ rest.0, rest.1)) where
+  pub report_split : report_from continues p read.0 read.1 ≡ turn_lines continues p e ++ after_turn continues p e rest
+  report_split =
+      ap (λ (r : Read). report_from continues p r.0 r.1) first
+      ∙ by_test (event_line p e) (last_line (after p (verdict p.world e.0))) (report_from continues (after p (verdict p.world e.0)) rest.0 rest.1) (goes_on continues (verdict p.world e.0))
     where
-      by_verdict : (line : List ℕ) (v : Verdict) →
-          line ++ on_verdict v (λ next. report_from next (events + 1) rest.0 rest.1) (λ why. last_line events W)
-          ≡ (line ++ on_verdict v (λ next. []) (λ why. last_line events W)) ++ on_verdict v (λ next. report_from next (events + 1) rest.0 rest.1) (λ why. [])
-      by_verdict line (Accepted w) = ap (λ x. x ++ report_from w (events + 1) rest.0 rest.1) (sym (append-nil line))
-      by_verdict line (Refused why) = sym (append-nil (line ++ last_line events W))
+      by_test : (line last more : List ℕ) (b : Bool) → line ++ (if b then more else last) ≡ (line ++ (if b then [] else last)) ++ (if b then more else [])
+      by_test line last more true = ap (λ x. x ++ more) (sym (append-nil line))
+      by_test line last more false = sym (append-nil (line ++ last))
 
-  pub report_goes : IsNext (verdict W e.0) W next true → report_from W events read.0 read.1 ≡ turn_lines W events e ++ report_from next (events + 1) rest.0 rest.1
-  report_goes n = report_split ∙ ap (λ x. turn_lines W events e ++ x) (on_next (verdict W e.0) W next (λ w. report_from w (events + 1) rest.0 rest.1) [] n)
+module _ (continues : Bool) (p q : Progress) (e : Datum × ℕ) (accepted : Bool) (next : IsNext (verdict p.world e.0) p q accepted) where
+  pub goes_with : (accepted || continues) ≡ true → goes_on continues (verdict p.world e.0) ≡ true
+  goes_with = goes continues (verdict p.world e.0) accepted next.accepts
 
-  pub report_stops : IsNext (verdict W e.0) W next false → report_from W events read.0 read.1 ≡ turn_lines W events e
-  report_stops n = report_split ∙ ap (λ x. turn_lines W events e ++ x) (on_stop (verdict W e.0) W next (λ w. report_from w (events + 1) rest.0 rest.1) (λ w. []) n) ∙ append-nil (turn_lines W events e)
+  pub stops_with : (accepted || continues) ≡ false → goes_on continues (verdict p.world e.0) ≡ false
+  stops_with = stops continues (verdict p.world e.0) accepted next.accepts
 
-  accepts_first : (es : List (Datum × ℕ)) (end : Option (ℕ × ℕ)) → accepts W (e ∷ es) end ≡ on_verdict (verdict W e.0) (λ w. accepts w es end) (λ why. false)
-  accepts_first es None = refl
-  accepts_first es (Some fault) = same (verdict W e.0)
+  pub turn_goes : (accepted || continues) ≡ true → turn_lines continues p e ≡ event_line p e
+  turn_goes h =
+      ap (λ b. event_line p e ++ (if b then [] else last_line (after p (verdict p.world e.0)))) (goes_with h) ∙ append-nil (event_line p e)
+
+  pub turn_stops : (accepted || continues) ≡ false → turn_lines continues p e ≡ event_line p e ++ last_line q
+  turn_stops h =
+      ap (λ b. event_line p e ++ (if b then [] else last_line (after p (verdict p.world e.0)))) (stops_with h)
+      ∙ ap (λ (r : Progress). event_line p e ++ last_line r) (sym next.progress)
+
+  -- where the event stands first
+  module _ (read rest : Read) (first : read ≡ (e ∷ rest.0, rest.1)) where
+    pub report_goes : (accepted || continues) ≡ true → report_from continues p read.0 read.1 ≡ turn_lines continues p e ++ report_from continues q rest.0 rest.1
+    report_goes h =
+        report_split continues p e read rest first
+        ∙ ap (λ b. turn_lines continues p e ++ (if b then report_from continues (after p (verdict p.world e.0)) rest.0 rest.1 else [])) (goes_with h)
+        ∙ ap (λ (r : Progress). turn_lines continues p e ++ report_from continues r rest.0 rest.1) (sym next.progress)
+
+    pub report_stops : (accepted || continues) ≡ false → report_from continues p read.0 read.1 ≡ turn_lines continues p e
+    report_stops h =
+        report_split continues p e read rest first
+        ∙ ap (λ b. turn_lines continues p e ++ (if b then report_from continues (after p (verdict p.world e.0)) rest.0 rest.1 else [])) (stops_with h)
+        ∙ append-nil (turn_lines continues p e)
+
+    accepts_first : (es : List (Datum × ℕ)) (end : Option (ℕ × ℕ)) → accepts p (e ∷ es) end ≡ (if is_refusal (verdict p.world e.0) then false else accepts (after p (verdict p.world e.0)) es end)
+    accepts_first es None = refl
+    accepts_first es (Some fault) = same (is_refusal (verdict p.world e.0))
+      where
+        same : (b : Bool) → false ≡ (if b then false else false)
+        same true = refl
+        same false = refl
+
+    refuses : (b : Bool) → accepted ≡ b → is_refusal (verdict p.world e.0) ≡ not b
+    refuses b h = by_test (is_refusal (verdict p.world e.0)) b (sym h ∙ next.accepts)
+      where
+        by_test : (r b : Bool) → b ≡ not r → r ≡ not b
+        by_test true b k = sym (ap not k)
+        by_test false b k = sym (ap not k)
+
+    pub accepts_goes : accepted ≡ true → accepts q rest.0 rest.1 ≡ accepts p read.0 read.1
+    accepts_goes h =
+        sym (ap (λ (r : Read). accepts p r.0 r.1) first ∙ accepts_first rest.0 rest.1
+        ∙ ap (λ b. if b then false else accepts (after p (verdict p.world e.0)) rest.0 rest.1) (refuses true h)
+        ∙ ap (λ (r : Progress). accepts r rest.0 rest.1) (sym next.progress))
+
+    pub accepts_not : accepted ≡ false → accepts p read.0 read.1 ≡ false
+    accepts_not h =
+        ap (λ (r : Read). accepts p r.0 r.1) first ∙ accepts_first rest.0 rest.1
+        ∙ ap (λ b. if b then false else accepts (after p (verdict p.world e.0)) rest.0 rest.1) (refuses false h)
+
+    pub world_goes : (accepted || continues) ≡ true → world_from continues q rest.0 ≡ world_from continues p read.0
+    world_goes h =
+        sym (ap (λ (r : Read). world_from continues p r.0) first
+        ∙ ap (λ b. if b then world_from continues (after p (verdict p.world e.0)) rest.0 else p.world) (goes_with h)
+        ∙ ap (λ (r : Progress). world_from continues r rest.0) (sym next.progress))
+
+    pub world_stops : (accepted || continues) ≡ false → world_from continues p read.0 ≡ q.world
+    world_stops h =
+        ap (λ (r : Read). world_from continues p r.0) first
+        ∙ ap (λ b. if b then world_from continues (after p (verdict p.world e.0)) rest.0 else p.world) (stops_with h)
+        ∙ sym (ap (λ (r : Progress). r.world) next.progress ∙ kept (verdict p.world e.0) (stops_with h))
+      where
+        kept : (v : Verdict) → goes_on continues v ≡ false → (after p v).world ≡ p.world
+        kept (Accepted w) k = absurd (cc)
+        kept (Refused why) k = refl
+
+    pub fewer : length read.0 ≡ length rest.0 + 1
+    fewer = ap (λ (r : Read). length r.0) first ∙ (let k : length (e ∷ rest.0) ≡ length rest.0 + 1 = omega arith in k)
+
+  -- how many were handled and counted
+  pub handled_more : q.handled ≡ p.handled + 1
+  handled_more = ap (λ (r : Progress). r.handled) next.progress ∙ one (verdict p.world e.0)
     where
-      same : (v : Verdict) → false ≡ on_verdict v (λ w. false) (λ why. false)
-      same (Accepted w) = refl
-      same (Refused why) = refl
+      one : (v : Verdict) → (after p v).handled ≡ p.handled + 1
+      one (Accepted w) = refl
+      one (Refused why) = refl
 
-  pub accepts_goes : IsNext (verdict W e.0) W next true → accepts next rest.0 rest.1 ≡ accepts W read.0 read.1
-  accepts_goes n = sym (ap (λ (r : Read). accepts W r.0 r.1) first ∙ accepts_first rest.0 rest.1 ∙ on_next (verdict W e.0) W next (λ w. accepts w rest.0 rest.1) false n)
+  pub counted_within : p.counted ≤ p.handled → q.counted ≤ q.handled
+  counted_within h = subst (λ (r : Progress). r.counted ≤ r.handled) (sym next.progress) (within (verdict p.world e.0))
+    where
+      within : (v : Verdict) → (after p v).counted ≤ (after p v).handled
+      within (Accepted w) = omega (arith, h)
+      within (Refused why) = omega (arith, h)
 
-  pub accepts_stops : IsNext (verdict W e.0) W next false → accepts W read.0 read.1 ≡ false
-  accepts_stops n = ap (λ (r : Read). accepts W r.0 r.1) first ∙ accepts_first rest.0 rest.1 ∙ on_stop (verdict W e.0) W next (λ w. accepts w rest.0 rest.1) (λ w. false) n
-
-  pub world_goes : IsNext (verdict W e.0) W next true → world_from next rest.0 ≡ world_from W read.0
-  world_goes n = sym (ap (λ (r : Read). world_from W r.0) first ∙ on_next (verdict W e.0) W next (λ w. world_from w rest.0) W n)
-
-  pub world_stops : IsNext (verdict W e.0) W next false → world_from W read.0 ≡ next
-  world_stops n = ap (λ (r : Read). world_from W r.0) first ∙ on_stop (verdict W e.0) W next (λ w. world_from w rest.0) (λ w. w) n
-
-  pub fewer : length read.0 ≡ length rest.0 + 1
-  fewer = ap (λ (r : Read). length r.0) first ∙ (let k : length (e ∷ rest.0) ≡ length rest.0 + 1 = omega arith in k)
+-- all were accepted so far, and whether the next was
+module _ (all accepted : Bool) (before behind : Bool) where
+  pub both_go : (accepted ≡ true → behind ≡ before) → (accepted ≡ false → before ≡ false) → ((all && accepted) && behind) ≡ (all && before)
+  both_go yes-case no-case = by_test all accepted refl
+    where
+      by_test : (a b : Bool) → accepted ≡ b → ((a && b) && behind) ≡ (a && before)
+      by_test true true h = yes-case h
+      by_test true false h = sym (no-case h)
+      by_test false b h = refl
 
 -- where the events end
-module _ (W : World) (events : ℕ) (read : Read) (end : Option (ℕ × ℕ)) (last : read ≡ ([], end)) where
-  pub report_ends : report_from W events read.0 read.1 ≡ end_lines events W end
-  report_ends = ap (λ (r : Read). report_from W events r.0 r.1) last
+module _ (continues : Bool) (p : Progress) (read : Read) (end : Option (ℕ × ℕ)) (last : read ≡ ([], end)) where
+  pub report_ends : report_from continues p read.0 read.1 ≡ end_lines p end
+  report_ends = ap (λ (r : Read). report_from continues p r.0 r.1) last
 
-  pub world_ends : world_from W read.0 ≡ W
-  world_ends = ap (λ (r : Read). world_from W r.0) last
+  pub world_ends : world_from continues p read.0 ≡ p.world
+  world_ends = ap (λ (r : Read). world_from continues p r.0) last
 
-pub accepts_end : (W : World) (read : Read) → read ≡ ([], None) → accepts W read.0 read.1 ≡ true
-accepts_end W read last = ap (λ (r : Read). accepts W r.0 r.1) last
+pub accepts_end : (p : Progress) (read : Read) → read ≡ ([], None) → accepts p read.0 read.1 ≡ true
+accepts_end p read last = ap (λ (r : Read). accepts p r.0 r.1) last
 
-pub accepts_fault : (W : World) (read : Read) (fault : ℕ × ℕ) → read ≡ ([], Some fault) → accepts W read.0 read.1 ≡ false
-accepts_fault W read fault last = ap (λ (r : Read). accepts W r.0 r.1) last
+pub accepts_fault : (p : Progress) (read : Read) (fault : ℕ × ℕ) → read ≡ ([], Some fault) → accepts p read.0 read.1 ≡ false
+accepts_fault p read fault last = ap (λ (r : Read). accepts p r.0 r.1) last
+
+pub one_line : (line : List ℕ) (lines : List (List ℕ)) → lines ≡ line ∷ [] → all_lines lines ≡ line
+one_line line lines e = ap all_lines e ∙ append-nil line
+
+-- the first line, and the others, as a slice reads them
+pub lines_split : (lines : List (List ℕ)) (d : List ℕ) → 1 ≤ length lines → all_lines lines ≡ get_or lines 0 d ++ all_lines (take (length lines - 1) (drop 1 lines))
+lines_split [] d h = absurd (omega arith)
+lines_split (line ∷ lines) d h =
+    let k : length (line ∷ lines) - 1 ≡ length lines = omega arith in
+    ap (λ x. line ++ x) (ap all_lines (sym (ap (λ n. take n lines) k ∙ take-length lines)))

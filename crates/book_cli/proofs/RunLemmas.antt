@@ -11,7 +11,7 @@ use Rattle.ports.proofs.Streams.{Grows-trans}
 use Rattle.lisp_data.specs.Datum.{Datum}
 use Rattle.lisp_reader.specs.Grammar.{parse, book_of}
 use Rattle.lisp_reader.proofs.Ends.{goes_on}
-use Rattle.terms.specs.Worlds.{World}
+use Rattle.book_cli.specs.declared.progress.Progress.{Progress}
 use Rattle.terms.specs.Sound.{Sound}
 use Rattle.book_cli.specs.Report.{Read, accepts, accepts_all, report, report_of, world_made}
 use Rattle.book_cli.specs.Outcomes.{IsReported, IsAcceptedRun, IsRefusedRun}
@@ -43,9 +43,9 @@ pub if_some : (o : Option (List ℕ)) (P Q : List ℕ → Type 0) → IfSome o P
 if_some None P Q h f = tt
 if_some (Some bytes) P Q h f = f bytes h
 
-accepts_to_end : (W : World) (es : List (Datum × ℕ)) (end : Option (ℕ × ℕ)) → accepts W es end ≡ true → end ≡ None
-accepts_to_end W es None h = refl
-accepts_to_end W es (Some fault) h = cc
+accepts_to_end : (p : Progress) (es : List (Datum × ℕ)) (end : Option (ℕ × ℕ)) → accepts p es end ≡ true → end ≡ None
+accepts_to_end p es None h = refl
+accepts_to_end p es (Some fault) h = cc
 
 -- a longer book is never accepted
 pub front_refused : (front : List ℕ) → accepts_all (parse true front) ≡ true → ⊥
@@ -68,20 +68,20 @@ one_word (w ∷ []) word check false h k e t =
     (λ i. cc, λ same. let is : w ≡ check = cc in absurd (other_text word check t (e ∙ is)))
 
 -- a book that was read whole and reported
-pub accepted_run : (left left_after held held_after : Option (List ℕ)) (bytes : List ℕ) → IsWhole left left_after 1048576 bytes → IsReported held held_after (parse false bytes) true → IsAcceptedRun left left_after held held_after
-accepted_run left left_after held held_after bytes whole it =
+pub accepted_run : (continues : Bool) (left left_after held held_after : Option (List ℕ)) (bytes : List ℕ) → IsWhole left left_after 1048576 bytes → IsReported continues held held_after (parse false bytes) true → IsAcceptedRun continues left left_after held held_after
+accepted_run continues left left_after held held_after bytes whole it =
     let same : book_of bytes ≡ parse false bytes = whole_is bytes whole.within in
     record {
       book = bytes;
       whole = whole;
-      written = subst (λ (r : Read). Grows held held_after (report_of r)) (sym same) it.written;
+      written = subst (λ (r : Read). Grows held held_after (report_of continues r)) (sym same) it.written;
       none_refused = ap accepts_all same ∙ it.accepts;
-      sound = subst (λ (r : Read). Sound (world_made r)) (sym same) it.sound;
+      sound = subst (λ (r : Read). Sound (world_made continues r)) (sym same) it.sound;
     }
 
 -- what was read of a book and reported, with a refused line
-pub refused_run : (left held held_after : Option (List ℕ)) (read : Read) → IfSome left (λ bytes. book_of bytes ≡ read) → IsReported held held_after read false → IsRefusedRun left held held_after
-refused_run left held held_after read of_book it =
+pub refused_run : (continues : Bool) (left held held_after : Option (List ℕ)) (read : Read) → IfSome left (λ bytes. book_of bytes ≡ read) → IsReported continues held held_after read false → IsRefusedRun continues left held held_after
+refused_run continues left held held_after read of_book it =
     record {
       read = read;
       of_book = of_book;

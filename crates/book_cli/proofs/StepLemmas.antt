@@ -1,5 +1,5 @@
 -- The answers to events.
-use Rattle.std.proofs.Common.{◌≡◌, ℕ, Bool, true, false, ◌&&◌, List, [], ◌∷◌, Result, Ok, Err, if◌then◌else◌, refl, ap, sym, ◌∙◌, subst}
+use Rattle.std.proofs.Common.{◌≡◌, ℕ, Bool, true, false, ◌&&◌, List, [], ◌∷◌, Some, Result, Ok, Err, if◌then◌else◌, refl, ap, sym, ◌∙◌, subst}
 use Rattle.std.specs.Result.{IsErr, IsErrAnd}
 use Rattle.std.proofs.lemmas.Bool.{and_parts}
 use Rattle.lisp_data.specs.Values.{Name}
@@ -16,6 +16,14 @@ use Rattle.terms.specs.Worlds.{World, Holds}
 use Rattle.terms.specs.declared.sequent.Sequent.{Sequent}
 use Rattle.terms.proofs.Same.{same_term}
 use Rattle.book_cli.specs.Events.{claim, is_empty, proves, unless_recursive}
+use Rattle.terms.specs.Sound.{add_theorem}
+use Rattle.proof_objects.specs.ProofTrees.{ProofTree, steps}
+use Rattle.kernel.specs.Concludes.{concludes}
+use Rattle.kernel.specs.Conclusion.{Conclusion}
+use Rattle.kernel.specs.declared.errors.RuleName.TheVariants.{Claim}
+use Rattle.book_cli.specs.Steps.{ProvesAll}
+use Rattle.book_cli.specs.Verdicts.{of_conclusion}
+use Rattle.book_cli.specs.Verdicts as verdict
 use Rattle.book_cli.specs.Halts.{IsCoded, IsRefusal, IsFromTerm, Says}
 use Rattle.book_cli.specs.declared.refusal.Refusal.TheVariants.{Coded, ProofWrong}
 use Rattle.book_cli.specs.declared.halt.Halt.{Halt}
@@ -64,3 +72,11 @@ module _ (o : Outcome Tm) (f : Name) (t : Tm) (calls : Bool) (is : o ≡ Ok t) (
 
   pub flat_body : calls ≡ false → and_then o (unless_recursive f) ≡ Ok t
   flat_body is_false = goes_on ∙ ap (λ b. if b then not_an_event else Ok t) is_false
+
+-- a theorem whose proof concludes what proves it
+pub concluded : (W next : World) (n : Name) (t : Tm) (p : ProofTree) (s : Sequent) → concludes W p ≡ Some s → proves s t ≡ true → next ≡ add_theorem n (claim t) W → of_conclusion W n t p (concludes W p) ≡ verdict.Accepted next
+concluded W next n t p s e yes-proves is =
+    ap (of_conclusion W n t p) e ∙ ap (λ b. if b then verdict.Accepted (add_theorem n (claim t) W) else verdict.Refused (ProofWrong (steps p) Claim)) yes-proves ∙ ap verdict.Accepted (sym is)
+
+pub one_proved : (W : World) (t : Tm) (proved : Conclusion) (before : List Conclusion) → before ≡ proved ∷ [] → proved.world ≡ W → proved.sequent ≡ claim t → ProvesAll W (claim t ∷ []) before
+one_proved W t proved before e world sequent = subst (ProvesAll W (claim t ∷ [])) (sym e) ((world, sequent), tt)

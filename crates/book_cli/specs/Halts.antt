@@ -1,5 +1,5 @@
 -- What ends the handling of an event.
-use Rattle.std.specs.Prelude.{◌≡◌, ℕ, List, Result, Ok, Err}
+use Rattle.std.specs.Prelude.{◌≡◌, ℕ, List, [], Result, Ok, Err}
 use Rattle.lisp_data.specs.declared.detail.Detail.{Detail}
 use Rattle.terms.specs.Worlds.{World}
 use Rattle.terms.specs.Translation.{Outcome}
@@ -13,6 +13,8 @@ use Rattle.book_cli.specs.declared.refusal.Refusal.{Refusal}
 use Rattle.book_cli.specs.declared.refusal.Refusal.TheVariants.{Coded, ProofWrong}
 use Rattle.book_cli.specs.declared.halt.Halt.{Halt}
 use Rattle.book_cli.specs.declared.halt.Halt.TheVariants.{Refused, Memory}
+use Rattle.terms.specs.declared.sequent.Sequent.{Sequent}
+use Rattle.book_cli.specs.Steps.{ProvesAll}
 use Rattle.book_cli.specs.declared.steps.Made.{Made}
 
 -- what an error says, where it isn't want of memory
@@ -41,8 +43,15 @@ abbrev pub IsFromTerm : TermError → Halt → Type 0
 IsFromTerm (term.Refused code detail) e = e ≡ Refused (Coded code detail)
 IsFromTerm term.Memory e = e ≡ Memory
 
--- the answer is the verdict's; what is accepted has this line
-abbrev pub Judges : Verdict → List ℕ → Result Made Halt → Type 0
-Judges v ok (Ok made) = (v ≡ verdict.Accepted made.world) × (made.line ≡ ok)
-Judges v ok (Err (Refused why)) = v ≡ verdict.Refused why
-Judges v ok (Err Memory) = Unit {0}
+-- what an accepted event makes: this world, this line, and these conditions proved in the world before it
+pub record IsMade (W : World) (conditions : List Sequent) (v : Verdict) (ok : List ℕ) (made : Made) : Type 0 where
+  pub verdict_is : v ≡ verdict.Accepted made.world
+  pub line_is : made.line ≡ ok
+  pub before : ProvesAll W conditions made.proofs.before
+  pub after : made.proofs.after ≡ []
+
+-- the answer is the verdict's
+abbrev pub Judges : World → List Sequent → Verdict → List ℕ → Result Made Halt → Type 0
+Judges W conditions v ok (Ok made) = IsMade W conditions v ok made
+Judges W conditions v ok (Err (Refused why)) = v ≡ verdict.Refused why
+Judges W conditions v ok (Err Memory) = Unit {0}

@@ -1,8 +1,10 @@
 pub mod Events
 pub mod Refusals
 pub mod Verdicts
-pub mod Halts
 pub mod Report
 pub mod Steps
+pub mod Halts
 pub mod Begun
 pub mod Outcomes
+pub mod CommandLines
+pub mod CommandMatches

@@ -31,6 +31,15 @@ is_cut ReadFault = true
 is_cut WriteFault = true
 is_cut Memory = true
 
+-- an end that comes for mode lines alone: want of memory may come while words are read
+abbrev pub IsOfModeLine : Status → Type 0
+IsOfModeLine Accepted = ⊤
+IsOfModeLine Refused = ⊤
+IsOfModeLine Usage = ⊥
+IsOfModeLine ReadFault = ⊤
+IsOfModeLine WriteFault = ⊤
+IsOfModeLine Memory = ⊥
+
 -- how a report can end
 abbrev pub IsReportStatus : Status → Type 0
 IsReportStatus Accepted = ⊤
@@ -52,25 +61,25 @@ pub record IsUntouched (told_before told_after : Option (List ℕ)) (faults_befo
   pub faults : faults_after ≡ faults_before
 
 -- what was read was reported whole, and accepted or not; its world is sound
-pub record IsReported (before after : Option (List ℕ)) (read : Read) (accepted : Bool) : Type 0 where
-  pub written : Grows before after (report_of read)
+pub record IsReported (continues : Bool) (before after : Option (List ℕ)) (read : Read) (accepted : Bool) : Type 0 where
+  pub written : Grows before after (report_of continues read)
   pub accepts : accepts_all read ≡ accepted
-  pub sound : Sound (world_made read)
+  pub sound : Sound (world_made continues read)
 
 -- The whole book was read, where it is told it was this one and nothing of it is left, its report was written, none of its events is refused,
 -- and its world is sound.
-pub record IsAcceptedRun (left left_after held held_after : Option (List ℕ)) : Type 0 where
+pub record IsAcceptedRun (continues : Bool) (left left_after held held_after : Option (List ℕ)) : Type 0 where
   pub book : List ℕ
   pub whole : IsWhole left left_after book_limit book
-  pub written : Grows held held_after (report book)
+  pub written : Grows held held_after (report continues book)
   pub none_refused : is_accepted book ≡ true
-  pub sound : Sound (world_of book)
+  pub sound : Sound (world_of continues book)
 
--- What was read is the book's, where the book is told; its whole report was written, with a refused line, and the world before the refusal is
+-- What was read is the book's, where the book is told; its whole report was written, with a refused line, and the world that it made is
 -- sound.
-pub record IsRefusedRun (left held held_after : Option (List ℕ)) : Type 0 where
+pub record IsRefusedRun (continues : Bool) (left held held_after : Option (List ℕ)) : Type 0 where
   pub read : Read
   pub of_book : IfSome left (λ book. book_of book ≡ read)
-  pub written : Grows held held_after (report_of read)
+  pub written : Grows held held_after (report_of continues read)
   pub one_refused : accepts_all read ≡ false
-  pub sound : Sound (world_made read)
+  pub sound : Sound (world_made continues read)

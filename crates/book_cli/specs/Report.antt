@@ -1,5 +1,5 @@
 -- What is written for a book, and the world that it makes.
-use Rattle.std.specs.Prelude.{◌≡◌, ℕ, ◌+◌, Bool, true, false, List, [], ◌∷◌, ◌++◌, Option, Some, None, Ok, Err, codes}
+use Rattle.std.specs.Prelude.{◌≡◌, ℕ, ◌+◌, Bool, true, false, ◌&&◌, List, [], ◌∷◌, ◌++◌, length, Option, Some, None, Ok, Err, codes, if◌then◌else◌}
 use Rattle.std.specs.Fmt.{decimal}
 use Rattle.lisp_data.specs.Datum.{Datum}
 use Rattle.lisp_data.specs.declared.detail.Detail.TheVariants.{Absent}
@@ -9,6 +9,7 @@ use Rattle.terms.specs.Sound.{initial_world}
 use Rattle.event_forms.specs.Shapes.{Event, InPackage, IncludeBook, Defun, Defthm, event_of}
 use Rattle.terms.specs.Translation.{Outcome}
 use Rattle.worlds.specs.Entries.{further_theorems}
+use Rattle.book_cli.specs.declared.progress.Progress.{Progress}
 use Rattle.book_cli.specs.declared.refusal.Refusal.{Refusal}
 use Rattle.book_cli.specs.declared.refusal.Refusal.TheVariants.{Coded}
 use Rattle.book_cli.specs.Refusals.{refusal_text}
@@ -17,6 +18,28 @@ use Rattle.book_cli.specs.Verdicts.{Verdict, Accepted, Refused, verdict}
 -- forms with the places of their first bytes, and the first fault with its place, or the end
 abbrev pub Read : Type 0
 Read = List (Datum × ℕ) × Option (ℕ × ℕ)
+
+-- before the first event
+abbrev pub begin : Progress
+begin = record { world = initial_world; handled = 0; counted = 0 }
+
+-- a refused event leaves the world, and doesn't count
+abbrev pub after : Progress → Verdict → Progress
+after p (Accepted next) = record { world = next; handled = p.handled + 1; counted = p.counted + 1 }
+after p (Refused why) = record { world = p.world; handled = p.handled + 1; counted = p.counted }
+
+abbrev pub is_refusal : Verdict → Bool
+is_refusal (Accepted next) = false
+is_refusal (Refused why) = true
+
+-- the first refusal ends the run, unless it is to continue
+abbrev pub goes_on : Bool → Verdict → Bool
+goes_on continues v = if is_refusal v then continues else true
+
+-- lines, one after the other
+abbrev pub all_lines : List (List ℕ) → List ℕ
+all_lines [] = []
+all_lines (line ∷ lines) = line ++ all_lines lines
 
 -- an event's word and its name
 abbrev pub event_name : Event → List ℕ
@@ -41,66 +64,69 @@ abbrev pub refused_line : ℕ → Refusal → ℕ → List ℕ
 refused_line index why place = codes "refused " ++ (decimal index ++ (codes " " ++ (refusal_text why ++ (codes " at " ++ (decimal place ++ codes "\n")))))
 
 -- the count of theorems leaves out those that each book begins with
-abbrev pub last_line : ℕ → World → List ℕ
-last_line events W = codes "accepted " ++ (decimal events ++ (codes " events " ++ (decimal (further_theorems W) ++ codes " theorems\n")))
+abbrev pub last_line : Progress → List ℕ
+last_line p = codes "accepted " ++ (decimal p.counted ++ (codes " events " ++ (decimal (further_theorems p.world) ++ codes " theorems\n")))
 
-abbrev pub on_verdict : {A : Type 0} → Verdict → (World → A) → (Refusal → A) → A
-on_verdict (Accepted W) f g = f W
-on_verdict (Refused why) f g = g why
+-- the line of a form, by its verdict and its index
+abbrev pub verdict_line : Verdict → Datum × ℕ → ℕ → List ℕ
+verdict_line (Accepted next) e index = ok_line e.0
+verdict_line (Refused why) e index = refused_line index why e.1
 
--- the line of an event, where so many were accepted before it
-abbrev pub event_line : World → ℕ → Datum × ℕ → List ℕ
-event_line W events e = on_verdict (verdict W e.0) (λ next. ok_line e.0) (λ why. refused_line (events + 1) why e.1)
+-- the line of an event
+abbrev pub event_line : Progress → Datum × ℕ → List ℕ
+event_line p e = verdict_line (verdict p.world e.0) e (p.handled + 1)
 
 -- the lines at the end of what could be read
-abbrev pub end_lines : ℕ → World → Option (ℕ × ℕ) → List ℕ
-end_lines events W None = last_line events W
-end_lines events W (Some fault) = refused_line (events + 1) (Coded fault.0 Absent) fault.1 ++ last_line events W
+abbrev pub end_lines : Progress → Option (ℕ × ℕ) → List ℕ
+end_lines p None = last_line p
+end_lines p (Some fault) = refused_line (p.handled + 1) (Coded fault.0 Absent) fault.1 ++ last_line p
 
--- the report of these forms, where so many events were accepted and made this world; the first refusal ends it
-abbrev pub report_from : World → ℕ → List (Datum × ℕ) → Option (ℕ × ℕ) → List ℕ
-report_from W events [] end = end_lines events W end
-report_from W events (e ∷ es) end =
-    event_line W events e ++ on_verdict (verdict W e.0) (λ next. report_from next (events + 1) es end) (λ why. last_line events W)
+-- the report of these forms, from some progress on; it is asked for one that goes on after a refusal, or ends with it
+abbrev pub report_from : Bool → Progress → List (Datum × ℕ) → Option (ℕ × ℕ) → List ℕ
+report_from continues p [] end = end_lines p end
+report_from continues p (e ∷ es) end =
+    event_line p e
+    ++ (if goes_on continues (verdict p.world e.0) then report_from continues (after p (verdict p.world e.0)) es end else last_line (after p (verdict p.world e.0)))
 
--- the lines of an event, with the last line where it is refused
-abbrev pub turn_lines : World → ℕ → Datum × ℕ → List ℕ
-turn_lines W events e = event_line W events e ++ on_verdict (verdict W e.0) (λ next. []) (λ why. last_line events W)
+-- the lines of an event, with the last line where the run ends with it
+abbrev pub turn_lines : Bool → Progress → Datum × ℕ → List ℕ
+turn_lines continues p e =
+    event_line p e ++ (if goes_on continues (verdict p.world e.0) then [] else last_line (after p (verdict p.world e.0)))
 
 -- the world that the forms make
-abbrev pub world_from : World → List (Datum × ℕ) → World
-world_from W [] = W
-world_from W (e ∷ es) = on_verdict (verdict W e.0) (λ next. world_from next es) (λ why. W)
+abbrev pub world_from : Bool → Progress → List (Datum × ℕ) → World
+world_from continues p [] = p.world
+world_from continues p (e ∷ es) = if goes_on continues (verdict p.world e.0) then world_from continues (after p (verdict p.world e.0)) es else p.world
 
 -- no form is refused
-abbrev pub all_accepted : World → List (Datum × ℕ) → Bool
-all_accepted W [] = true
-all_accepted W (e ∷ es) = on_verdict (verdict W e.0) (λ next. all_accepted next es) (λ why. false)
+abbrev pub all_accepted : Progress → List (Datum × ℕ) → Bool
+all_accepted p [] = true
+all_accepted p (e ∷ es) = if is_refusal (verdict p.world e.0) then false else all_accepted (after p (verdict p.world e.0)) es
 
 -- all was read, and no form is refused
-abbrev pub accepts : World → List (Datum × ℕ) → Option (ℕ × ℕ) → Bool
-accepts W es None = all_accepted W es
-accepts W es (Some fault) = false
+abbrev pub accepts : Progress → List (Datum × ℕ) → Option (ℕ × ℕ) → Bool
+accepts p es None = all_accepted p es
+accepts p es (Some fault) = false
 
 -- the report of what was read
-abbrev pub report_of : Read → List ℕ
-report_of read = report_from initial_world 0 read.0 read.1
+abbrev pub report_of : Bool → Read → List ℕ
+report_of continues read = report_from continues begin read.0 read.1
 
 -- it was read to its end, and none of its events is refused
 abbrev pub accepts_all : Read → Bool
-accepts_all read = accepts initial_world read.0 read.1
+accepts_all read = accepts begin read.0 read.1
 
-abbrev pub world_made : Read → World
-world_made read = world_from initial_world read.0
+abbrev pub world_made : Bool → Read → World
+world_made continues read = world_from continues begin read.0
 
 -- the report of a book's bytes
-abbrev pub report : List ℕ → List ℕ
-report book = report_of (book_of book)
+abbrev pub report : Bool → List ℕ → List ℕ
+report continues book = report_of continues (book_of book)
 
 -- the book is read to its end, and none of its events is refused
 abbrev pub is_accepted : List ℕ → Bool
 is_accepted book = accepts_all (book_of book)
 
 -- the world of a book's bytes
-abbrev pub world_of : List ℕ → World
-world_of book = world_made (book_of book)
+abbrev pub world_of : Bool → List ℕ → World
+world_of continues book = world_made continues (book_of book)

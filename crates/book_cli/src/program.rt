@@ -1,14 +1,16 @@
 //! The top call, which does all that the program does.
 
-ghost use Rattle.std.specs.Prelude.{◌≡◌, ◌≢◌, ◌≤◌, ◌∷◌, ◌↔◌, [], IfSome, IsTrue, true, false, codes};
+ghost use Rattle.std.specs.Prelude.{◌≡◌, ◌≢◌, ◌≤◌, IfSome, IsTrue, true, false};
 ghost use Rattle.ports.specs.Causes.{Rose};
 ghost use Rattle.ports.specs.Streams.{GrowsByFront};
 ghost use Rattle.lisp_reader.specs.Grammar.{parse};
+ghost use Rattle.book_cli.specs.CommandLines.{IsModeLine, continues};
 ghost use Rattle.book_cli.specs.Report.{report, report_of};
-ghost use Rattle.book_cli.specs.Outcomes.{IsAcceptedRun, IsRefusedRun, IsReported, IsReportStatus, IsUntouched, is_cut};
+ghost use Rattle.book_cli.specs.Outcomes.{IsAcceptedRun, IsRefusedRun, IsReported, IsReportStatus, IsOfModeLine, IsUntouched, is_cut};
 
 use crate::report::write_report;
 use crate::status::{Status, status_of};
+use crate::words::{WordsError, read_words};
 use lisp_reader::FormReader;
 use lists::{Seq, Text};
 use ports::{ReadAllError, Sink, Source, read_all};
@@ -31,59 +33,79 @@ pub fn run<B: Source, L: Source, K: Sink, P: Sink>(
     out: &mut K,
     new_log: &mut P,
 ) -> Status
-    // Other words than the one are refused, and nothing is touched.
-    ensures usage { result ≡ Status.Usage ↔ (words.now ≢ codes "check" ∷ []) }
+    // Words that are no mode line are refused, and nothing is touched.
+    ensures usage { result ≡ Status.Usage → IsModeLine words.now → ⊥ }
+    ensures mode_line { IsOfModeLine result → IsModeLine words.now }
     ensures book_untouched { result ≡ Status.Usage → IsUntouched (B.left book.old) (B.left book.new) (B.faults book.old) (B.faults book.new) }
     ensures out_untouched { result ≡ Status.Usage → IsUntouched (K.held out.old) (K.held out.new) (K.faults out.old) (K.faults out.new) }
     ensures old_log_untouched { IsUntouched (L.left old_log.old) (L.left old_log.new) (L.faults old_log.old) (L.faults old_log.new) }
     ensures new_log_untouched { IsUntouched (P.held new_log.old) (P.held new_log.new) (P.faults new_log.old) (P.faults new_log.new) }
 
     // What is accepted is true: the whole book was read, its report was written, and each theorem of its world holds.
-    ensures accepted { result ≡ Status.Accepted → IsAcceptedRun (B.left book.old) (B.left book.new) (K.held out.old) (K.held out.new) }
+    ensures accepted { result ≡ Status.Accepted → IsAcceptedRun (continues words.now) (B.left book.old) (B.left book.new) (K.held out.old) (K.held out.new) }
 
     // The whole report was written, with its refused line.
-    ensures refused { result ≡ Status.Refused → IsRefusedRun (B.left book.old) (K.held out.old) (K.held out.new) }
+    ensures refused { result ≡ Status.Refused → IsRefusedRun (continues words.now) (B.left book.old) (K.held out.old) (K.held out.new) }
 
     // After a fault or want of memory a front of the report was written.
-    ensures cut { IsTrue (is_cut result) → IfSome (B.left book.old) (λ bytes. GrowsByFront (K.held out.old) (K.held out.new) (report bytes)) }
+    ensures cut { IsTrue (is_cut result) → IfSome (B.left book.old) (λ bytes. GrowsByFront (K.held out.old) (K.held out.new) (report (continues words.now) bytes)) }
 
     // A fault is told only where one came.
     ensures read_fault { result ≡ Status.ReadFault → Rose (B.faults book.old) (B.faults book.new) }
     ensures read_fault_untouched { result ≡ Status.ReadFault → IsUntouched (K.held out.old) (K.held out.new) (K.faults out.old) (K.faults out.new) }
     ensures write_fault { result ≡ Status.WriteFault → Rose (K.faults out.old) (K.faults out.new) }
 {
-    if !is_check(words) {
-        return Status::Usage;
+    match read_words(alloc, words) {
+        Ok(line) => check_book(alloc, line.continues, book, out),
+        Err(error) => match error {
+            WordsError::Usage(_) => Status::Usage,
+            WordsError::Memory => Status::Memory,
+        },
     }
+}
+
+/// Reads a book, checks its events and writes the report, which goes on behind a refused event or ends with it.
+fn check_book<B: Source, K: Sink>(
+    alloc: Global,
+    continues: bool,
+    book: &mut B,
+    out: &mut K,
+) -> Status
+    ensures no_usage { result ≢ Status.Usage }
+    ensures accepted { result ≡ Status.Accepted → IsAcceptedRun continues (B.left book.old) (B.left book.new) (K.held out.old) (K.held out.new) }
+    ensures refused { result ≡ Status.Refused → IsRefusedRun continues (B.left book.old) (K.held out.old) (K.held out.new) }
+    ensures cut { IsTrue (is_cut result) → IfSome (B.left book.old) (λ bytes. GrowsByFront (K.held out.old) (K.held out.new) (report continues bytes)) }
+    ensures read_fault { result ≡ Status.ReadFault → Rose (B.faults book.old) (B.faults book.new) }
+    ensures read_fault_untouched { result ≡ Status.ReadFault → IsUntouched (K.held out.old) (K.held out.new) (K.faults out.old) (K.faults out.new) }
+    ensures write_fault { result ≡ Status.WriteFault → Rose (K.faults out.old) (K.faults out.new) }
+{
     match read_all(alloc, book, LIMIT) {
-        Ok(bytes) => report_bytes(alloc, bytes.as_slice(), false, out),
+        Ok(bytes) => report_bytes(alloc, bytes.as_slice(), false, continues, out),
         Err(error) => match error {
             ReadAllError::ReadFault => Status::ReadFault,
-            ReadAllError::TooLong(front) => report_bytes(alloc, front.as_slice(), true, out),
+            ReadAllError::TooLong(front) => {
+                report_bytes(alloc, front.as_slice(), true, continues, out)
+            }
             ReadAllError::Memory => Status::Memory,
         },
     }
 }
 
-/// The one word that is taken as yet.
-fn is_check(words: &Words) -> bool
-    ensures { IsTrue result ↔ (words.now ≡ codes "check" ∷ []) }
-{
-    match words.as_slice() {
-        [word] => word.as_slice() == b"check".as_slice(),
-        _ => false,
-    }
-}
-
 /// The report of the bytes of a book, which goes on past them or not.
-fn report_bytes<K: Sink>(alloc: Global, bytes: &[u8], more: bool, out: &mut K) -> Status
-    ensures accepted { result ≡ Status.Accepted → IsReported (K.held out.old) (K.held out.new) (parse more bytes.now) true }
-    ensures refused { result ≡ Status.Refused → IsReported (K.held out.old) (K.held out.new) (parse more bytes.now) false }
-    ensures cut { IsTrue (is_cut result) → GrowsByFront (K.held out.old) (K.held out.new) (report_of (parse more bytes.now)) }
+fn report_bytes<K: Sink>(
+    alloc: Global,
+    bytes: &[u8],
+    more: bool,
+    continues: bool,
+    out: &mut K,
+) -> Status
+    ensures accepted { result ≡ Status.Accepted → IsReported continues (K.held out.old) (K.held out.new) (parse more bytes.now) true }
+    ensures refused { result ≡ Status.Refused → IsReported continues (K.held out.old) (K.held out.new) (parse more bytes.now) false }
+    ensures cut { IsTrue (is_cut result) → GrowsByFront (K.held out.old) (K.held out.new) (report_of continues (parse more bytes.now)) }
     ensures others { IsReportStatus result }
     ensures cause { result ≡ Status.WriteFault → Rose (K.faults out.old) (K.faults out.new) }
     ensures later { K.faults out.old ≤ K.faults out.new }
 {
     let mut reader = FormReader::new(bytes, more);
-    status_of(write_report(alloc, &mut reader, out))
+    status_of(write_report(alloc, &mut reader, continues, out))
 }

@@ -99,6 +99,18 @@ fn wrong_text(alloc: Global, node: u32, rule: RuleName) -> Result<Text, Memory>
 }
 
 impl Refusal {
+    ghost use Rattle.book_cli.specs.Steps.{refusal_code};
+
+    /// The number of the refusal.
+    pub(crate) fn code(&self) -> u8
+        ensures { result ≡ refusal_code self.now }
+    {
+        match self {
+            Refusal::Coded { code, detail: _ } => *code,
+            Refusal::ProofWrong { node: _, rule: _ } => 32,
+        }
+    }
+
     /// Writes code, word and detail at the end of a text. Where there is no memory a part of it may be there.
     pub(crate) fn write(&self, alloc: Global, out: &mut Text) -> Result<(), Memory>
         ensures { OnOk result (out.new ≡ out.old ++ spec.refusal_text self.now) }

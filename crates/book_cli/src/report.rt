@@ -1,75 +1,114 @@
 //! The report of a book.
 
-ghost use Rattle.std.specs.Prelude.{◌≡◌, ◌≤◌, ◌<◌, ◌^◌, ◌-◌, ◌+◌, length, IfOk, OnOk, OnErr, IsErrOf, Some};
+ghost use Rattle.std.specs.Prelude.{◌≡◌, ◌≤◌, ◌<◌, ◌^◌, ◌-◌, ◌+◌, ◌||◌, ◌&&◌, length, IfOk, OnOk, OnErr, IsErrOf, Some};
 ghost use Rattle.lisp_data.specs.FormView.{form_of, IsProper};
 ghost use Rattle.ports.specs.Causes.{Rose};
 ghost use Rattle.ports.specs.Streams.{Grows, GrowsByFront};
 ghost use Rattle.terms.specs.Sound.{Sound};
 ghost use Rattle.book_cli.specs.Verdicts.{verdict};
-ghost use Rattle.book_cli.specs.Report.{event_line, turn_lines, refused_line, last_line, end_lines, report_of, accepts_all, world_made};
+ghost use Rattle.book_cli.specs.Report.{all_lines, event_line, turn_lines, refused_line, last_line, end_lines, report_of, accepts_all, world_made};
 ghost use Rattle.book_cli.specs.Steps.{IsNext};
 
 use crate::lines::{accepted_text, refused_text};
+use crate::progress::Progress;
 use crate::refusal::Refusal;
 use crate::steps::{StepAnswer, step};
 use crate::stop::Stop;
 use lisp_data::Detail;
 use lisp_reader::{FormReader, Located, ReadError};
+use lists::Text;
 use ports::{Sink, put_all};
 use std::alloc::Global;
 use worlds::World;
 
-/// Handles an event and writes its line. Answers whether the run goes on.
+/// Handles an event and writes its line. Answers whether it was accepted.
 fn handle<K: Sink>(
     alloc: Global,
-    world: &mut World,
+    progress: &mut Progress,
     located: &Located,
-    events: u64,
     out: &mut K,
 ) -> Result<bool, Stop>
     requires proper { IsProper located.now.form }
-    requires few { events < 2 ^ 64 - 1 }
-    ensures written { OnOk result (Grows (K.held out.old) (K.held out.new) (event_line world.old events (form_of located.now.form, located.now.place))) }
-    ensures cut { OnErr result (GrowsByFront (K.held out.old) (K.held out.new) (event_line world.old events (form_of located.now.form, located.now.place))) }
-    ensures next { IfOk result (IsNext (verdict world.old (form_of located.now.form)) world.old world.new) }
+    requires few { progress.old.handled < 2 ^ 64 - 1 }
+    requires counted { progress.old.counted ≤ progress.old.handled }
+    ensures written { OnOk result (Grows (K.held out.old) (K.held out.new) (event_line progress.old (form_of located.now.form, located.now.place))) }
+    ensures cut { OnErr result (GrowsByFront (K.held out.old) (K.held out.new) (event_line progress.old (form_of located.now.form, located.now.place))) }
+    ensures next { IfOk result (IsNext (verdict progress.old.world (form_of located.now.form)) progress.old progress.new) }
     ensures cause { IsErrOf result Stop.WriteFault → Rose (K.faults out.old) (K.faults out.new) }
     ensures later { K.faults out.old ≤ K.faults out.new }
 {
-    match step(alloc, world, &located.form)? {
-        StepAnswer::Accepted(next, line) => {
-            put_all(out, line.as_slice())?;
-            *world = next;
+    let index = progress.handled + 1;
+    match step(alloc, &progress.world, located, index, false)? {
+        StepAnswer::Accepted(next, lines, _proofs) => {
+            write_lines(lines.as_slice(), out)?;
+            progress.world = next;
+            progress.handled += 1;
+            progress.counted += 1;
             Ok(true)
         }
-        StepAnswer::Refused(why) => {
-            write_refusal(alloc, events, &why, located.place, out)?;
+        StepAnswer::Refused(_, lines) => {
+            write_lines(lines.as_slice(), out)?;
+            progress.handled += 1;
             Ok(false)
+        }
+        StepAnswer::Redundant(_) | StepAnswer::Printed(_) => unreachable!(),
+    }
+}
+
+/// Writes the lines of an event, which are few.
+fn write_lines<K: Sink>(lines: &[Text], out: &mut K) -> Result<(), Stop>
+    ensures written { OnOk result (Grows (K.held out.old) (K.held out.new) (all_lines lines.now)) }
+    ensures cut { OnErr result (GrowsByFront (K.held out.old) (K.held out.new) (all_lines lines.now)) }
+    ensures cause { IsErrOf result Stop.WriteFault → Rose (K.faults out.old) (K.faults out.new) }
+    ensures later { K.faults out.old ≤ K.faults out.new }
+{
+    match lines {
+        [] => Ok(()),
+        [line, rest @ ..] => {
+            put_all(out, line.as_slice())?;
+            write_lines(rest, out)?;
+            Ok(())
         }
     }
 }
 
-/// Handles an event and writes its lines, with the last line where it is refused. Answers whether the run goes on.
+/// Whether a run goes on behind an event.
+fn goes_on(accepted: bool, continues: bool) -> bool
+    ensures { result ≡ (accepted || continues) }
+{
+    accepted || continues
+}
+
+/// Whether all events are accepted, with one more.
+fn still_all(all: bool, accepted: bool) -> bool
+    ensures { result ≡ (all && accepted) }
+{
+    all && accepted
+}
+
+/// Handles an event and writes its lines, with the last line where the run ends with it. Answers whether it was accepted.
 fn take_event<K: Sink>(
     alloc: Global,
-    world: &mut World,
+    progress: &mut Progress,
     located: Located,
-    events: u64,
+    continues: bool,
     out: &mut K,
 ) -> Result<bool, Stop>
     requires proper { IsProper located.form }
-    requires few { events < 2 ^ 64 - 1 }
-    ensures written { OnOk result (Grows (K.held out.old) (K.held out.new) (turn_lines world.old events (form_of located.form, located.place))) }
-    ensures cut { OnErr result (GrowsByFront (K.held out.old) (K.held out.new) (turn_lines world.old events (form_of located.form, located.place))) }
-    ensures next { IfOk result (IsNext (verdict world.old (form_of located.form)) world.old world.new) }
+    requires few { progress.old.handled < 2 ^ 64 - 1 }
+    requires counted { progress.old.counted ≤ progress.old.handled }
+    ensures written { OnOk result (Grows (K.held out.old) (K.held out.new) (turn_lines continues progress.old (form_of located.form, located.place))) }
+    ensures cut { OnErr result (GrowsByFront (K.held out.old) (K.held out.new) (turn_lines continues progress.old (form_of located.form, located.place))) }
+    ensures next { IfOk result (IsNext (verdict progress.old.world (form_of located.form)) progress.old progress.new) }
     ensures cause { IsErrOf result Stop.WriteFault → Rose (K.faults out.old) (K.faults out.new) }
     ensures later { K.faults out.old ≤ K.faults out.new }
 {
-    if handle(alloc, world, &located, events, out)? {
-        Ok(true)
-    } else {
-        write_last(alloc, world, events, out)?;
-        Ok(false)
+    let accepted = handle(alloc, progress, &located, out)?;
+    if goes_on(accepted, continues) {
+        return Ok(accepted);
     }
+    write_last(alloc, progress, out)?;
+    Ok(accepted)
 }
 
 /// Writes the line of a refused event, where so many were accepted before it.
@@ -92,13 +131,13 @@ fn write_refusal<K: Sink>(
 }
 
 /// Writes the last line.
-fn write_last<K: Sink>(alloc: Global, world: &World, events: u64, out: &mut K) -> Result<(), Stop>
-    ensures written { OnOk result (Grows (K.held out.old) (K.held out.new) (last_line events world.now)) }
-    ensures cut { OnErr result (GrowsByFront (K.held out.old) (K.held out.new) (last_line events world.now)) }
+fn write_last<K: Sink>(alloc: Global, progress: &Progress, out: &mut K) -> Result<(), Stop>
+    ensures written { OnOk result (Grows (K.held out.old) (K.held out.new) (last_line progress.now)) }
+    ensures cut { OnErr result (GrowsByFront (K.held out.old) (K.held out.new) (last_line progress.now)) }
     ensures cause { IsErrOf result Stop.WriteFault → Rose (K.faults out.old) (K.faults out.new) }
     ensures later { K.faults out.old ≤ K.faults out.new }
 {
-    let line = accepted_text(alloc, events, world.theorems())?;
+    let line = accepted_text(alloc, progress.counted, progress.world.theorems())?;
     put_all(out, line.as_slice())?;
     Ok(())
 }
@@ -106,15 +145,14 @@ fn write_last<K: Sink>(alloc: Global, world: &World, events: u64, out: &mut K) -
 /// Writes the line of a fault of the book, and the last line.
 fn write_fault<K: Sink>(
     alloc: Global,
-    world: &World,
-    events: u64,
+    progress: &Progress,
     code: u8,
     place: u64,
     out: &mut K,
 ) -> Result<(), Stop>
-    requires { events < 2 ^ 64 - 1 }
-    ensures written { OnOk result (Grows (K.held out.old) (K.held out.new) (end_lines events world.now (Some (code, place)))) }
-    ensures cut { OnErr result (GrowsByFront (K.held out.old) (K.held out.new) (end_lines events world.now (Some (code, place)))) }
+    requires { progress.now.handled < 2 ^ 64 - 1 }
+    ensures written { OnOk result (Grows (K.held out.old) (K.held out.new) (end_lines progress.now (Some (code, place)))) }
+    ensures cut { OnErr result (GrowsByFront (K.held out.old) (K.held out.new) (end_lines progress.now (Some (code, place)))) }
     ensures cause { IsErrOf result Stop.WriteFault → Rose (K.faults out.old) (K.faults out.new) }
     ensures later { K.faults out.old ≤ K.faults out.new }
 {
@@ -122,46 +160,52 @@ fn write_fault<K: Sink>(
         code,
         detail: Detail::Absent,
     };
-    write_refusal(alloc, events, &why, place, out)?;
-    write_last(alloc, world, events, out)?;
+    write_refusal(alloc, progress.handled, &why, place, out)?;
+    write_last(alloc, progress, out)?;
     Ok(())
 }
 
-/// Handles the events that the reader gives, up to the first that is refused or can't be read, and writes the report.
-/// Answers whether all were accepted.
+/// Handles the events that the reader gives, and writes the report. The first refusal ends it, unless the run continues; what can't be
+/// read ends it always. Answers whether all were accepted.
 pub(crate) fn write_report<K: Sink>(
     alloc: Global,
     reader: &mut FormReader<'_>,
+    continues: bool,
     out: &mut K,
 ) -> Result<bool, Stop>
     requires { length reader.old.0 ≤ 10000 }
-    ensures written { OnOk result (Grows (K.held out.old) (K.held out.new) (report_of reader.old)) }
-    ensures cut { OnErr result (GrowsByFront (K.held out.old) (K.held out.new) (report_of reader.old)) }
+    ensures written { OnOk result (Grows (K.held out.old) (K.held out.new) (report_of continues reader.old)) }
+    ensures cut { OnErr result (GrowsByFront (K.held out.old) (K.held out.new) (report_of continues reader.old)) }
     ensures accepted { IfOk result (λ all. all ≡ accepts_all reader.old) }
-    ensures sound { OnOk result (Sound (world_made reader.old)) }
+    ensures sound { OnOk result (Sound (world_made continues reader.old)) }
     ensures cause { IsErrOf result Stop.WriteFault → Rose (K.faults out.old) (K.faults out.new) }
     ensures later { K.faults out.old ≤ K.faults out.new }
 {
-    let mut world = World::initial(alloc)?;
-    let mut events: u64 = 0;
+    let mut progress = Progress {
+        world: World::initial(alloc)?,
+        handled: 0,
+        counted: 0,
+    };
+    let mut all = true;
     'events: loop {
         match reader.next(alloc) {
             Ok(Some(located)) => {
-                if !take_event(alloc, &mut world, located, events, out)? {
-                    world.soundness();
+                let accepted = take_event(alloc, &mut progress, located, continues, out)?;
+                all = still_all(all, accepted);
+                if !goes_on(accepted, continues) {
+                    progress.world.soundness();
                     return Ok(false);
                 }
-                events += 1;
             }
             Ok(None) => {
-                write_last(alloc, &world, events, out)?;
-                world.soundness();
-                return Ok(true);
+                write_last(alloc, &progress, out)?;
+                progress.world.soundness();
+                return Ok(all);
             }
             Err(error) => match error {
                 ReadError::Refused { code, place } => {
-                    write_fault(alloc, &world, events, code, place, out)?;
-                    world.soundness();
+                    write_fault(alloc, &progress, code, place, out)?;
+                    progress.world.soundness();
                     return Ok(false);
                 }
                 ReadError::Memory => return Err(Stop::Memory),

@@ -1,6 +1,6 @@
 //! The handling of one event.
 
-ghost use Rattle.std.specs.Prelude.{◌≡◌, ◌<◌, ◌^◌, ◌++◌, codes, map, IfOk, IfSome, true, false};
+ghost use Rattle.std.specs.Prelude.{◌≡◌, ◌<◌, ◌^◌, ◌++◌, ◌∷◌, [], Ok, codes, map, IfOk, IfSome, true, false};
 ghost use Rattle.lisp_data.specs.FormView.{form_of, IsProper, AllProper};
 ghost use Rattle.proof_objects.specs.ProofTrees.{steps};
 ghost use Rattle.worlds.specs.Names.{is_free};
@@ -8,67 +8,153 @@ ghost use Rattle.terms.specs.Sound.{add_definition, add_theorem};
 ghost use Rattle.terms.specs.Formed.{IsWellFormed};
 ghost use Rattle.terms.specs.Measures.{mentions};
 ghost use Rattle.kernel.specs.Concludes.{concludes};
-ghost use Rattle.event_forms.specs.Shapes.{Defun, Defthm};
+ghost use Rattle.terms.specs.Translation.{translate};
+ghost use Rattle.terms.specs.Worlds.{arity};
+ghost use Rattle.event_forms.specs.ProofTexts.{any};
+ghost use Rattle.event_forms.specs.Shapes.{Defun, Defthm, event_of};
 ghost use Rattle.event_forms.specs.ShapeView.{seen, if_given, HasProperParts};
 ghost use Rattle.book_cli.specs.Events.{claim};
 ghost use Rattle.book_cli.specs.Halts.{Judges};
 ghost use Rattle.book_cli.specs.Report.{ok_line, ok_text, event_name};
 ghost use Rattle.book_cli.specs.Verdicts.{of_event, of_proof, of_conclusion, verdict};
-ghost use Rattle.book_cli.specs.Steps.{IsStep};
+ghost use Rattle.book_cli.specs.Steps.{IsStep, claims, conditions_of};
 
 use crate::definitions::{check_name, proves, read_definition};
 use crate::halt::Halt;
-use crate::lines::{defthm_line, defun_line, in_package_line, include_book_line};
+use crate::lines::{defthm_line, defun_line, in_package_line, include_book_line, refused_text};
 use crate::refusal::Refusal;
 use event_forms::{Event as EventForm, read_event, read_proof};
 use kernel::{CheckError, Proved, RuleName, check};
 use lisp_data::{Form, Memory, Symbol};
-use lists::Text;
+use lisp_reader::Located;
+use lists::{Seq, Text};
 use proof_objects::{Proof, ProofNode};
 use std::alloc::Global;
 use terms::{Definition, Scope, Sequent, Term, Terms, translate};
 use worlds::{World, WorldError};
 
-/// What the handling of an event answers.
-#[derive(Drop)]
-pub(crate) enum StepAnswer {
-    /// The world that it makes, and its line.
-    Accepted(World, Text),
-    Refused(Refusal),
+/// The lines of a report.
+pub type Lines = Seq<Text>;
+
+/// A list of proved sequents.
+pub type ProvedList = Seq<Proved>;
+
+/// The proofs of an event's conditions, and of what its plan claims.
+pub struct EventProofs {
+    /// In the world before the event: one for each condition, in order.
+    pub before: ProvedList,
+    /// In the world that the event makes: of a plan's claims. No event has a plan as yet.
+    pub after: ProvedList,
 }
 
-/// What an accepted event makes: a world, and a line of the report.
+impl Drop for EventProofs {
+    fn drop(self) {
+        let EventProofs {
+            before: _,
+            after: _,
+        } = self;
+    }
+}
+
+impl EventProofs {
+    /// The proof of a theorem's claim.
+    fn of_claim(alloc: Global, proved: Proved) -> Result<EventProofs, Memory>
+        ensures before { IfOk result (λ proofs. proofs.before ≡ proved ∷ []) }
+        ensures after { IfOk result (λ proofs. proofs.after ≡ []) }
+    {
+        let mut before = ProvedList::new(alloc);
+        before.push(proved)?;
+        Ok(EventProofs {
+            before,
+            after: ProvedList::new(alloc),
+        })
+    }
+
+    /// The proofs of an event without conditions.
+    fn none(alloc: Global) -> EventProofs
+        ensures before { result.before ≡ [] }
+        ensures after { result.after ≡ [] }
+    {
+        EventProofs {
+            before: ProvedList::new(alloc),
+            after: ProvedList::new(alloc),
+        }
+    }
+}
+
+/// What the handling of an event answers (docs/BOOKS.md).
+#[derive(Drop)]
+pub enum StepAnswer {
+    /// The world that it makes, its lines, and its proofs.
+    Accepted(World, Lines, EventProofs),
+    /// It was accepted before.
+    Redundant(Lines),
+    /// A value is printed.
+    Printed(Lines),
+    /// The code of the refusal, and its lines.
+    Refused(u8, Lines),
+}
+
+/// What an accepted event makes: a world, a line of the report, and its proofs.
 pub(crate) struct Made {
     pub world: World,
     pub line: Text,
+    pub proofs: EventProofs,
 }
 
 impl Drop for Made {
     fn drop(self) {
-        let Made { world: _, line: _ } = self;
+        let Made {
+            world: _,
+            line: _,
+            proofs: _,
+        } = self;
     }
+}
+
+fn one_line(alloc: Global, line: Text) -> Result<Lines, Memory>
+    ensures { IfOk result (λ lines. lines ≡ line ∷ []) }
+{
+    let mut lines = Lines::new(alloc);
+    lines.push(line)?;
+    Ok(lines)
 }
 
 impl Made {
-    ghost use Rattle.book_cli.specs.declared.steps.StepAnswer.TheVariants.{Accepted};
+    ghost use Rattle.book_cli.specs.Steps.{IsAcceptance};
 
-    fn into_answer(self) -> StepAnswer
-        ensures { result ≡ Accepted self.world self.line }
+    fn into_answer(self, alloc: Global) -> Result<StepAnswer, Memory>
+        ensures { IfOk result (IsAcceptance self) }
     {
-        let Made { world, line } = self;
-        StepAnswer::Accepted(world, line)
+        let Made {
+            world,
+            line,
+            proofs,
+        } = self;
+        let lines = one_line(alloc, line)?;
+        Ok(StepAnswer::Accepted(world, lines, proofs))
     }
 }
 
-/// Handles an event. The world stays as it is.
-pub(crate) fn step(alloc: Global, world: &World, form: &Form) -> Result<StepAnswer, Memory>
-    requires { IsProper form.now }
-    ensures { IfOk result (IsStep world.now (form_of form.now)) }
+/// Handles an event, which is the book's event of this index, counted from 1. The world stays as it is.
+pub fn step(
+    alloc: Global,
+    world: &World,
+    located: &Located,
+    index: u64,
+    _show: bool,
+) -> Result<StepAnswer, Memory>
+    requires { IsProper located.now.form }
+    ensures { IfOk result (IsStep world.now (form_of located.now.form) located.now.place index) }
 {
-    match judge_form(alloc, world, form) {
-        Ok(made) => Ok(made.into_answer()),
+    match judge_form(alloc, world, &located.form) {
+        Ok(made) => made.into_answer(alloc),
         Err(halt) => match halt {
-            Halt::Refused(why) => Ok(StepAnswer::Refused(why)),
+            Halt::Refused(why) => {
+                let line = refused_text(alloc, index, &why, located.place)?;
+                let lines = one_line(alloc, line)?;
+                Ok(StepAnswer::Refused(why.code(), lines))
+            }
             Halt::Memory => Err(Memory),
         },
     }
@@ -76,7 +162,7 @@ pub(crate) fn step(alloc: Global, world: &World, form: &Form) -> Result<StepAnsw
 
 fn judge_form(alloc: Global, world: &World, form: &Form) -> Result<Made, Halt>
     requires { IsProper form.now }
-    ensures { Judges (verdict world.now (form_of form.now)) (ok_line (form_of form.now)) result }
+    ensures { Judges world.now (conditions_of world.now (event_of (form_of form.now))) (verdict world.now (form_of form.now)) (ok_line (form_of form.now)) result }
 {
     let event = read_event(alloc, form)?;
     judge_event(alloc, world, &event)
@@ -85,16 +171,18 @@ fn judge_form(alloc: Global, world: &World, form: &Form) -> Result<Made, Halt>
 /// Judges an event by its parts.
 fn judge_event(alloc: Global, world: &World, event: &EventForm<'_>) -> Result<Made, Halt>
     requires { HasProperParts event.now }
-    ensures { Judges (of_event world.now (seen event.now)) (ok_text (seen event.now)) result }
+    ensures { Judges world.now (conditions_of world.now (Ok (seen event.now))) (of_event world.now (seen event.now)) (ok_text (seen event.now)) result }
 {
     match event {
         EventForm::InPackage => Ok(Made {
             world: world.share()?,
             line: in_package_line(alloc)?,
+            proofs: EventProofs::none(alloc),
         }),
         EventForm::IncludeBook(book) => Ok(Made {
             world: world.share()?,
             line: include_book_line(alloc, book)?,
+            proofs: EventProofs::none(alloc),
         }),
         EventForm::Defun(name, formals, body) => judge_defun(alloc, world, name, formals, body),
         EventForm::Defthm(name, formula, proof) => {
@@ -112,7 +200,7 @@ fn judge_defun(
 ) -> Result<Made, Halt>
     requires formals { AllProper formals.now }
     requires body { IsProper body.now }
-    ensures { Judges (of_event world.now (Defun name.now (map form_of formals.now) (form_of body.now))) (codes "ok " ++ ((codes "defun " ++ name.now) ++ codes "\n")) result }
+    ensures { Judges world.now [] (of_event world.now (Defun name.now (map form_of formals.now) (form_of body.now))) (codes "ok " ++ ((codes "defun " ++ name.now) ++ codes "\n")) result }
 {
     terms::translated_terms_fit();
     world.soundness();
@@ -120,7 +208,11 @@ fn judge_defun(
     let definition = read_definition(alloc, world, name, formals, body)?;
     let line = defun_line(alloc, name)?;
     let world = with_definition(alloc, world, definition)?;
-    Ok(Made { world, line })
+    Ok(Made {
+        world,
+        line,
+        proofs: EventProofs::none(alloc),
+    })
 }
 
 /// The world with one more function, whose name is free.
@@ -148,7 +240,7 @@ fn judge_defthm(
 ) -> Result<Made, Halt>
     requires formula { IsProper formula.now }
     requires proof { IfSome proof (λ p. IsProper p.now) }
-    ensures { Judges (of_event world.now (Defthm name.now (form_of formula.now) (if_given proof.entry (λ p. form_of p.now)))) (codes "ok " ++ ((codes "defthm " ++ name.now) ++ codes "\n")) result }
+    ensures { Judges world.now (claims (translate (arity world.now.functions) any (form_of formula.now))) (of_event world.now (Defthm name.now (form_of formula.now) (if_given proof.entry (λ p. form_of p.now)))) (codes "ok " ++ ((codes "defthm " ++ name.now) ++ codes "\n")) result }
 {
     terms::translated_terms_fit();
     world.soundness();
@@ -171,14 +263,19 @@ fn judge_proof(
     proof: &Proof,
 ) -> Result<Made, Halt>
     requires { is_free world.now name.now ≡ true }
-    ensures { Judges (of_conclusion world.now name.now formula.now proof.now (concludes world.now proof.now)) (codes "ok " ++ ((codes "defthm " ++ name.now) ++ codes "\n")) result }
+    ensures { Judges world.now (claim formula.now ∷ []) (of_conclusion world.now name.now formula.now proof.now (concludes world.now proof.now)) (codes "ok " ++ ((codes "defthm " ++ name.now) ++ codes "\n")) result }
 {
     match check(alloc, world, proof) {
         Ok(proved) => {
             if proves(proved.sequent(), formula) {
                 let line = defthm_line(alloc, name)?;
                 let world = with_claim(alloc, world, name, formula, &proved)?;
-                Ok(Made { world, line })
+                let proofs = EventProofs::of_claim(alloc, proved)?;
+                Ok(Made {
+                    world,
+                    line,
+                    proofs,
+                })
             } else {
                 Err(Halt::Refused(Refusal::ProofWrong {
                     node: root_number(proof),

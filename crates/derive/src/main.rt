@@ -1,7 +1,7 @@
 //! Checks a book of definitions and theorems, and writes a report of it (docs/BOOKS.md).
 #![tactic(auto)]
 
-use book_cli::{Status, Words, run};
+use book_cli::{Status, Words, print_usage, run};
 use lists::{Memory, Text};
 use ports::{FileSink, FileSource, StdinSource, StdoutSink};
 use std::env;
@@ -13,7 +13,7 @@ fn main(rt: HostRuntime) -> ExitCode {
         Err(Memory) => Status::Memory,
     };
     if status == Status::Usage {
-        let _ = eprintln!(rt; "usage: derive check < BOOK");
+        let _ = print_usage(&rt);
     }
     ExitCode::from(status.code())
 }

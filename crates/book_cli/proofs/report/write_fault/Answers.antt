@@ -9,9 +9,9 @@ use Rattle.book_cli.proofs.report.write_fault.Goals as goal
 pub returns-in_err-write_refusal-clause-cut : goal.returns-in_err-write_refusal-clause-cut
 returns-in_err-write_refusal-clause-cut g c =
     on_err c.from_residual.result
-    (front_first _ _ (refused_line (c.args.events + 1) (Coded c.args.code Absent) c.args.place) (last_line c.args.events c.args.world.now) c.in_err-write_refusal.ensures.cut)
+    (front_first _ _ (refused_line (c.args.progress.now.handled + 1) (Coded c.args.code Absent) c.args.place) (last_line c.args.progress.now) c.in_err-write_refusal.ensures.cut)
 
 pub returns-in_err-write_last-clause-cut : goal.returns-in_err-write_last-clause-cut
 returns-in_err-write_last-clause-cut g c =
     on_err c.from_residual-in_err-write_last.result
-    (front_second _ (g.K.Sink.held c.write_refusal.new.out) _ (refused_line (c.args.events + 1) (Coded c.args.code Absent) c.args.place) (last_line c.args.events c.args.world.now) c.in_ok-write_refusal.ensures.written c.in_err-write_last.ensures.cut)
+    (front_second _ (g.K.Sink.held c.write_refusal.new.out) _ (refused_line (c.args.progress.now.handled + 1) (Coded c.args.code Absent) c.args.place) (last_line c.args.progress.now) c.in_ok-write_refusal.ensures.written c.in_err-write_last.ensures.cut)

@@ -1,4 +1,4 @@
-use Rattle.std.proofs.Common.{◌≡◌, ◌+◌, ◌≤◌, length}
+use Rattle.std.proofs.Common.{◌≡◌, ◌+◌, ◌≤◌, ◌&&◌, length}
 use Rattle.book_cli.specs.Begun.{IsBegun}
 use Rattle.book_cli.specs.Report.{report_from, report_of, world_from, world_made, accepts, accepts_all}
 use Rattle.book_cli.proofs.report.write_report.Given as goal
@@ -6,11 +6,12 @@ use Rattle.book_cli.proofs.report.write_report.Given as goal
 abbrev pub invariant-events : goal.invariant-events
 invariant-events g l =
     record {
-      begun : IsBegun (g.K.Sink.held l.fn.out) (g.K.Sink.held l.out) (report_from l.world l.events l.reader.0 l.reader.1) (report_of l.fn.reader);
-      accepted : accepts l.world l.reader.0 l.reader.1 ≡ accepts_all l.fn.reader;
-      final : world_from l.world l.reader.0 ≡ world_made l.fn.reader;
+      begun : IsBegun (g.K.Sink.held l.fn.out) (g.K.Sink.held l.out) (report_from l.continues l.progress l.reader.0 l.reader.1) (report_of l.continues l.fn.reader);
+      accepted : (l.all && accepts l.progress l.reader.0 l.reader.1) ≡ accepts_all l.fn.reader;
+      final : world_from l.continues l.progress l.reader.0 ≡ world_made l.continues l.fn.reader;
       later : g.K.Sink.faults l.fn.out ≤ g.K.Sink.faults l.out;
-      few : l.events + length l.reader.0 ≤ 10000;
+      few : l.progress.handled + length l.reader.0 ≤ 10000;
+      counted : l.progress.counted ≤ l.progress.handled;
     }
 
 abbrev pub decreases-events : goal.decreases-events
