@@ -180,7 +180,7 @@ pub flat_stays_total : StaysTotalFlat
 flat_stays_total W formed total d ok flat = stays_total W formed total d ok (λ e. absurd (cc)) (owes_nothing (Holds W) d flat)
 
 -- a name that no function has is no primitive's
-free_primitive : (F : Functions) (f : Name) → arity F f ≡ None → primitive f ≡ None
+pub free_primitive : (F : Functions) (f : Name) → arity F f ≡ None → primitive f ≡ None
 free_primitive F f e = by_cases (primitive f) (find F.defs f) (lookup F.vars f) e
   where
     by_cases : (p : Option Operation) (q : Option Definition) (r : Option ℕ) → arity_by p q r ≡ None → p ≡ None
@@ -215,11 +215,11 @@ with_definition W sound d ok new flat =
     by_test f false t i = sound.unlike_primitives f i
 
 -- one name more, somewhere in the list
-record Inserted (n : Name) (zs ws : List Name) : Type 0 where
-  among : (f : Name) → IsIn ws f → (bytes_eq n f ≡ true) ⊎ IsIn zs f
-  distinct : Distinct zs → (IsIn zs n → ⊥) → Distinct ws
+pub record Inserted (n : Name) (zs ws : List Name) : Type 0 where
+  pub among : (f : Name) → IsIn ws f → (bytes_eq n f ≡ true) ⊎ IsIn zs f
+  pub distinct : Distinct zs → (IsIn zs n → ⊥) → Distinct ws
 
-inserted_here : (n : Name) (zs : List Name) → Inserted n zs (n ∷ zs)
+pub inserted_here : (n : Name) (zs : List Name) → Inserted n zs (n ∷ zs)
 inserted_here n zs = record { among = λ f i. by_test f (bytes_eq n f) refl i; distinct = λ d h. (h, d) }
   where
     by_test : (f : Name) (b : Bool) → bytes_eq n f ≡ b → cond b (Unit {0}) (IsIn zs f) → (bytes_eq n f ≡ true) ⊎ IsIn zs f
@@ -246,7 +246,7 @@ inserted_behind n x zs ws h = record {
     by_either true i = tt
     by_either false i = i
 
-inserted_after : (n : Name) (xs zs ws : List Name) → Inserted n zs ws → Inserted n (xs ++ zs) (xs ++ ws)
+pub inserted_after : (n : Name) (xs zs ws : List Name) → Inserted n zs ws → Inserted n (xs ++ zs) (xs ++ ws)
 inserted_after n [] zs ws h = h
 inserted_after n (x ∷ xs) zs ws h = inserted_behind n x (xs ++ zs) (xs ++ ws) (inserted_after n xs zs ws h)
 

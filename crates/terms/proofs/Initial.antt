@@ -18,6 +18,7 @@ use Rattle.terms.specs.Laws.{WorldsGrow}
 use Rattle.terms.proofs.Basics.{t_not_nil}
 use Rattle.terms.proofs.Totality.{stays_total}
 use Rattle.terms.proofs.Growth.{flat_stays_total, with_definition, with_theorem}
+use Rattle.terms.proofs.MoreEntries.{with_variable, with_specification, with_event}
 use Rattle.terms.proofs.BuiltInTests.{none_recursive, formed_all, distinct, each_in}
 use Rattle.terms.proofs.Standard.{operates, basics_table, IsTruth, Obeys, basics_obey, truth_fits, truth_holds}
 use Rattle.terms.proofs.InitialTheorems.{smaller_cdr, natural_is, initial_table, initial_obeys, equal_same_true, count_car_true, count_cdr_true, natp_count_true, natp_nfix_true, natp_minus_1_true, nfix_minus_1_true, count_minus_1_true}
@@ -190,4 +191,11 @@ initial_sound = record {
 }
 
 pub worlds_grow : WorldsGrow
-worlds_grow = record { begins = initial_sound; definition = with_definition; theorem = with_theorem }
+worlds_grow = record {
+  begins = initial_sound;
+  definition = with_definition;
+  variable = with_variable;
+  theorem = with_theorem;
+  specification = with_specification;
+  event = with_event;
+}

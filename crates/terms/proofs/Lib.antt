@@ -11,6 +11,7 @@ pub mod Same
 pub mod Basics
 pub mod Totality
 pub mod Growth
+pub mod MoreEntries
 mod NameLemmas
 pub mod BuiltInTests
 pub mod Standard

@@ -1,15 +1,17 @@
 -- The laws of the model.
 use Rattle.std.specs.Prelude.{◌≡◌, true, false, ℕ, ◌≤◌, List, [], ◌∷◌, Some, None}
 use Rattle.lisp_data.specs.Values.{Name, Val}
+use Rattle.lisp_data.specs.Datum.{Datum}
 use Rattle.terms.specs.Primitives.{primitive}
 use Rattle.terms.specs.Terms.{Tm, substitute}
 use Rattle.terms.specs.Definitions.{Interp}
 use Rattle.terms.specs.Evaluation.{Env, eval}
-use Rattle.terms.specs.Worlds.{Functions, World, FitsSequent, IsIn, names, Total, Fits, Holds}
+use Rattle.terms.specs.Worlds.{Functions, World, FitsSequent, IsIn, names, arity, Total, Fits, Holds}
 use Rattle.terms.specs.Measures.{mentions}
-use Rattle.terms.specs.Formed.{with_def, IsFormed, AllFormed, HasBasics, ObligationsHold}
-use Rattle.terms.specs.Sound.{Sound, initial_world, add_definition, add_theorem}
+use Rattle.terms.specs.Formed.{with_def, IsFormed, AllFormed, FitsOver, HasBasics, ObligationsHold}
+use Rattle.terms.specs.Sound.{Sound, initial_world, add_definition, add_variable, add_theorem, add_specification, add_event}
 use Rattle.terms.specs.declared.definition.Definition.{Definition}
+use Rattle.terms.specs.declared.entries.Specification.{Specification}
 use Rattle.terms.specs.declared.sequent.Sequent.{Sequent}
 
 -- a value at n is the value at each larger n
@@ -35,8 +37,12 @@ abbrev pub StaysTotalFlat : Type 0
 StaysTotalFlat =
     (W : Functions) → AllFormed W.vars W.defs → Total W → (d : Definition) → IsFormed W d → mentions d.name d.body ≡ false → Total (with_def W d)
 
--- the world that each book begins with is sound, and a sound world stays so with a definition that isn't recursive, and with a theorem that holds
+-- The world that each book begins with is sound. A sound world stays so with a definition that isn't recursive, with a function variable, with
+-- a theorem that holds and with a specification whose matrix has no variables but its own, each under a new name; and with an event.
 pub record WorldsGrow : Type 0 where
   pub begins : Sound initial_world
   pub definition : (W : World) → Sound W → (d : Definition) → IsFormed W.functions d → (IsIn (names W) d.name → ⊥) → mentions d.name d.body ≡ false → Sound (add_definition d W)
+  pub variable : (W : World) → Sound W → (x : Name) (k : ℕ) → arity W.functions x ≡ None → (IsIn (names W) x → ⊥) → Sound (add_variable x k W)
   pub theorem : (W : World) → Sound W → (n : Name) (s : Sequent) → primitive n ≡ None → (IsIn (names W) n → ⊥) → s.hyps ≡ [] → FitsSequent W.functions s → Holds W.functions s → Sound (add_theorem n s W)
+  pub specification : (W : World) → Sound W → (s : Specification) → primitive s.name ≡ None → (IsIn (names W) s.name → ⊥) → FitsOver W.functions s.variables s.matrix → Sound (add_specification s W)
+  pub event : (W : World) → Sound W → (e : Datum) → Sound (add_event e W)

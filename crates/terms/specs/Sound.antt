@@ -1,6 +1,7 @@
 -- Sound worlds, and how they grow.
-use Rattle.std.specs.Prelude.{◌≡◌, Some, None, List, [], ◌∷◌, codes}
+use Rattle.std.specs.Prelude.{◌≡◌, ℕ, Some, None, List, [], ◌∷◌, codes}
 use Rattle.lisp_data.specs.Values.{Name}
+use Rattle.lisp_data.specs.Datum.{Datum}
 use Rattle.terms.specs.Primitives.{primitive}
 use Rattle.terms.specs.Terms.{Tm, Var}
 use Rattle.terms.specs.Measures.{call1, call2, obligations}
@@ -8,9 +9,10 @@ use Rattle.terms.specs.Worlds.{World, Functions, Each, IsIn, Distinct, FitsSeque
 use Rattle.terms.specs.BuiltIn.{binary_append_def, initial_definitions}
 use Rattle.terms.specs.Definitions.{find}
 use Rattle.terms.specs.InitialTheorems.{initial_theorems}
-use Rattle.terms.specs.Formed.{with_def, AllFormed, FitsOver, HasBasics, VarsApart}
+use Rattle.terms.specs.Formed.{with_def, with_var, AllFormed, FitsOver, HasBasics, VarsApart}
 use Rattle.terms.specs.declared.definition.Definition.{Definition}
 use Rattle.terms.specs.declared.sequent.Sequent.{Sequent}
+use Rattle.terms.specs.declared.entries.Specification.{Specification}
 use Rattle.terms.specs.declared.entries.Iso.{Iso}
 
 -- each sequent is well formed in the world, and holds there
@@ -67,3 +69,14 @@ add_definition d W = record W { functions = with_def W.functions d }
 
 abbrev pub add_theorem : Name → Sequent → World → World
 add_theorem n s W = record W { theorems = (n, s) ∷ W.theorems }
+
+-- a function variable with so many arguments
+abbrev pub add_variable : Name → ℕ → World → World
+add_variable x k W = record W { functions = with_var W.functions x k }
+
+abbrev pub add_specification : Specification → World → World
+add_specification s W = record W { specifications = s ∷ W.specifications }
+
+-- an event that was accepted
+abbrev pub add_event : Datum → World → World
+add_event e W = record W { events = e ∷ W.events }

@@ -73,3 +73,11 @@ pub enum Link {
         wrapper: Symbol,
     },
 }
+
+/// A sequent that holds in a world: a theorem, an obligation of a definition, counted from 0, or a condition of an isomorphism, counted from 1.
+#[derive(Drop)]
+pub enum FactName {
+    Theorem(Symbol),
+    Measure(Symbol, u32),
+    Isomorphism(Symbol, u32),
+}

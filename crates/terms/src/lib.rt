@@ -22,7 +22,7 @@ mod translation;
 mod translation_laws;
 
 pub use definition::Definition;
-pub use entries::{FunPair, FunPairs, Iso, IsoUse, IsoUses, Link, Specification};
+pub use entries::{FactName, FunPair, FunPairs, Iso, IsoUse, IsoUses, Link, Specification};
 pub use laws::{
     definitions_stay_total, flat_definitions_stay_total, later_definitions, substitution,
     values_stay, worlds_grow,
