@@ -1,4 +1,5 @@
 pub mod Reserved
+pub mod Forms
 pub mod Free
 pub mod Growth
 pub mod Lookups

@@ -9,7 +9,11 @@ mod built_in_theorems;
 mod entry;
 mod function;
 mod names;
+mod pairs;
 mod world;
 
 pub use function::Function;
+pub use terms::{
+    Definition, FactName, FunPair, FunPairs, Iso, IsoUse, IsoUses, Link, Specification,
+};
 pub use world::{World, WorldError};

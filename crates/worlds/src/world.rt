@@ -1,25 +1,28 @@
 ghost use Rattle.std.specs.Prelude.{◌≡◌, ◌↔◌, [], IfOk, IfSome, IsErrOf, false};
-ghost use Rattle.std.specs.Option.{option_copied};
+ghost use Rattle.std.specs.Option.{option_copied, option_map};
+ghost use Rattle.lisp_data.specs.FormView.{form_of, IsProper};
 ghost use Rattle.terms.specs.Primitives.{lookup};
 ghost use Rattle.terms.specs.Definitions.{find};
 ghost use Rattle.terms.specs.Worlds.{arity, names, is_in, Holds, FitsSequent};
 ghost use Rattle.terms.specs.Measures.{mentions};
-ghost use Rattle.terms.specs.Formed.{IsWellFormed};
-ghost use Rattle.terms.specs.Sound.{Sound, initial_world, add_definition, add_theorem};
+ghost use Rattle.terms.specs.Formed.{IsWellFormed, FitsOver};
+ghost use Rattle.terms.specs.Sound.{Sound, AllHold, iso_conditions, initial_world, add_definition, add_variable, add_theorem, add_specification, add_event};
 ghost use Rattle.worlds.specs.Names.{is_free};
-ghost use Rattle.worlds.specs.Entries.{with_entry, further_theorems};
-ghost use Rattle.worlds.specs.WorldView.{world_of};
+ghost use Rattle.worlds.specs.Entries.{with_entry, further_theorems, IsProperEntry};
+ghost use Rattle.worlds.specs.Events.{has_event, find_defthm};
+ghost use Rattle.worlds.specs.Lookups.{find_spec, find_iso, find_instance};
+ghost use Rattle.worlds.specs.WorldView.{world_of, IsProperTop};
 ghost use Rattle.worlds.specs.Functions.{IsFunction};
 
 use crate::base::Base;
 use crate::entry::Entry;
 use crate::function::Function;
 use crate::names::{is_reserved, operands};
-use lisp_data::{Memory, Symbol};
+use lisp_data::{Form, Memory, Symbol};
 use std::alloc::Global;
 use std::marker::Model;
 use std::rc::Rc;
-use terms::{Definition, Sequent, Signatures};
+use terms::{Definition, FunPairs, Iso, Link, Sequent, Signatures, Specification};
 
 /// Why a world can't grow.
 #[derive(Clone, Copy, Debug, PartialEq, Eq)]
@@ -40,13 +43,14 @@ impl From<Memory> for WorldError {
     }
 }
 
-/// What a book has made so far: functions, theorems and the rest (docs/MODEL.md). It never changes; a larger world
-/// shares all of it.
+/// What a book has made so far: functions, function variables, theorems, specifications, isomorphisms, instances of
+/// functions, what theorems of transformations say, and the events that were accepted (docs/MODEL.md). It never
+/// changes; a larger world shares all of it.
 ///
 /// Contracts see it as plain data, a record of lists. Each world is sound.
 #[cycle(world)]
 pub struct World {
-    top: Link,
+    top: Layers,
     theorems: u64,
 }
 
@@ -55,7 +59,7 @@ impl Drop for World {
     fn drop(mut self) {
         loop {
             let World { top, theorems: _ } = self;
-            let Link::More(layer) = top else {
+            let Layers::More(layer) = top else {
                 return;
             };
             let Some(layer) = Rc::into_inner(layer) else {
@@ -69,7 +73,7 @@ impl Drop for World {
 
 #[cycle(world)]
 #[derive(Drop)]
-enum Link {
+enum Layers {
     Bottom(Rc<Base>),
     More(Rc<Layer>),
 }
@@ -90,17 +94,17 @@ impl Model for World {
 
     ghost coded = { world_code };
 
-    ghost use Rattle.worlds.specs.WorldView.{world_of};
+    ghost use Rattle.worlds.specs.WorldView.{world_of, IsProperTop};
 
     ghost view = { λ w. world_of w.top };
 
-    ghost invariant = { λ w. IsWorld (world_of w.top) w.theorems };
+    ghost invariant = { λ w. IsWorld (world_of w.top) w.theorems × IsProperTop w.top };
 
     ghost size = { entries };
 
-    ghost use Rattle.std.proofs.Common.{arith};
+    ghost use Rattle.std.proofs.Common.{arith, length-append};
 
-    ghost size_decreases = { λ a h. Prim.grind arith };
+    ghost size_decreases = { λ a h. Prim.grind (arith, length-append) };
 }
 
 impl World {
@@ -111,7 +115,7 @@ impl World {
         terms::worlds_grow();
         let base = Rc::new(alloc, Base::initial(alloc)?)?;
         Ok(World {
-            top: Link::Bottom(base),
+            top: Layers::Bottom(base),
             theorems: 0,
         })
     }
@@ -121,8 +125,8 @@ impl World {
         ensures { IfOk result (λ w. w ≡ self.now) }
     {
         let top = match &self.top {
-            Link::Bottom(base) => Link::Bottom(base.clone()?),
-            Link::More(layer) => Link::More(layer.clone()?),
+            Layers::Bottom(base) => Layers::Bottom(base.clone()?),
+            Layers::More(layer) => Layers::More(layer.clone()?),
         };
         Ok(World {
             top,
@@ -145,13 +149,17 @@ impl World {
         if let Some(arity) = operands(name) {
             return Some(Function::Primitive(arity));
         }
+        self.soundness();
         let mut world = self;
         loop {
             match &world.top {
-                Link::Bottom(base) => return base.definition(name).map(Function::Defined),
-                Link::More(layer) => {
+                Layers::Bottom(base) => return base.definition(name).map(Function::Defined),
+                Layers::More(layer) => {
                     if let Some(definition) = layer.entry.definition(name) {
                         return Some(Function::Defined(definition));
+                    }
+                    if let Some(arity) = layer.entry.variable(name) {
+                        return Some(Function::Variable(arity));
                     }
                     world = &layer.rest;
                 }
@@ -179,8 +187,8 @@ impl World {
         let mut world = self;
         loop {
             match &world.top {
-                Link::Bottom(base) => return base.definition(name),
-                Link::More(layer) => {
+                Layers::Bottom(base) => return base.definition(name),
+                Layers::More(layer) => {
                     if let Some(definition) = layer.entry.definition(name) {
                         return Some(definition);
                     }
@@ -211,8 +219,8 @@ impl World {
         let mut world = self;
         loop {
             match &world.top {
-                Link::Bottom(base) => return base.theorem(name),
-                Link::More(layer) => {
+                Layers::Bottom(base) => return base.theorem(name),
+                Layers::More(layer) => {
                     if let Some(sequent) = layer.entry.theorem(name) {
                         return Some(sequent);
                     }
@@ -220,6 +228,118 @@ impl World {
                 }
             }
         }
+    }
+
+    /// The specification of this name. Its matrix is well formed in the world, over its variables.
+    pub fn find_spec(&self, name: &Symbol) -> Option<&Specification>
+        ensures value { option_copied result ≡ find_spec self.now.specifications name.now }
+        ensures fits { IfSome result (λ s. FitsOver self.now.functions s.now.variables s.now.matrix) }
+    {
+        self.soundness();
+        match self.specification(name) {
+            Some(specification) => Some(specification),
+            None => None,
+        }
+    }
+
+    #[tactic(auto, using(crate::proofs::Lookups::lookups))]
+    fn specification(&self, name: &Symbol) -> Option<&Specification>
+        ensures { option_copied result ≡ find_spec self.now.specifications name.now }
+    {
+        let mut world = self;
+        while let Layers::More(layer) = &world.top {
+            if let Some(specification) = layer.entry.specification(name) {
+                return Some(specification);
+            }
+            world = &layer.rest;
+        }
+        None
+    }
+
+    /// The isomorphism of this name. Its conditions hold in the world.
+    pub fn find_iso(&self, name: &Symbol) -> Option<&Iso>
+        ensures value { option_copied result ≡ find_iso self.now.isos name.now }
+        ensures holds { IfSome result (λ i. AllHold self.now.functions (iso_conditions i.now)) }
+    {
+        self.soundness();
+        match self.iso(name) {
+            Some(iso) => Some(iso),
+            None => None,
+        }
+    }
+
+    #[tactic(auto, using(crate::proofs::Lookups::lookups))]
+    fn iso(&self, name: &Symbol) -> Option<&Iso>
+        ensures { option_copied result ≡ find_iso self.now.isos name.now }
+    {
+        let mut world = self;
+        while let Layers::More(layer) = &world.top {
+            if let Some(iso) = layer.entry.iso(name) {
+                return Some(iso);
+            }
+            world = &layer.rest;
+        }
+        None
+    }
+
+    /// What the theorem of this name says, where a transformation made it.
+    #[tactic(auto, using(crate::proofs::Lookups::lookups))]
+    pub fn find_link(&self, theorem: &Symbol) -> Option<&Link>
+        ensures { option_copied result ≡ lookup self.now.links theorem.now }
+    {
+        let mut world = self;
+        while let Layers::More(layer) = &world.top {
+            if let Some(link) = layer.entry.link(theorem) {
+                return Some(link);
+            }
+            world = &layer.rest;
+        }
+        None
+    }
+
+    /// The earliest instance of this function for these pairs, in any order.
+    #[tactic(auto, using(crate::proofs::Lookups::instances))]
+    pub fn find_instance(&self, of: &Symbol, pairs: &FunPairs) -> Option<&Symbol>
+        ensures { option_copied result ≡ find_instance self.now.instances of.now pairs.now }
+    {
+        let mut found = None;
+        let mut world = self;
+        while let Layers::More(layer) = &world.top {
+            found = layer.entry.instance(of, pairs).or(found);
+            world = &layer.rest;
+        }
+        found
+    }
+
+    /// Whether an event of this form was accepted.
+    #[tactic(auto, using(crate::proofs::Lookups::lookups))]
+    pub fn has_event(&self, form: &Form) -> bool
+        requires { IsProper form.now }
+        ensures { result ≡ has_event self.now.events (form_of form.now) }
+    {
+        let mut world = self;
+        while let Layers::More(layer) = &world.top {
+            if layer.entry.is_event(form) {
+                return true;
+            }
+            world = &layer.rest;
+        }
+        false
+    }
+
+    /// The earliest event `(defthm NAME ..)` that was accepted.
+    #[tactic(auto, using(crate::proofs::Lookups::lookups))]
+    pub fn find_defthm(&self, name: &Symbol) -> Option<&Form>
+        ensures value { option_map form_of (option_copied result) ≡ find_defthm self.now.events name.now }
+        ensures proper { IfSome result (λ f. IsProper f.now) }
+    {
+        let mut found = None;
+        let mut world = self;
+        while let Layers::More(layer) = &world.top {
+            found = layer.entry.defthm(name).or(found);
+            world = &layer.rest;
+        }
+        found
     }
 
     /// Whether the name may be given: it isn't reserved (docs/BOOKS.md), and nothing of the world has it.
@@ -236,8 +356,8 @@ impl World {
         let mut world = self;
         loop {
             match &world.top {
-                Link::Bottom(base) => return base.has_name(name),
-                Link::More(layer) => {
+                Layers::Bottom(base) => return base.has_name(name),
+                Layers::More(layer) => {
                     if layer.entry.is_named(name) {
                         return true;
                     }
@@ -272,6 +392,48 @@ impl World {
         })
     }
 
+    /// The world with one more function variable, of this arity.
+    pub fn with_variable(
+        &self,
+        alloc: Global,
+        name: Symbol,
+        arity: u32,
+    ) -> Result<World, WorldError>
+        ensures ok { IfOk result (λ w. w ≡ add_variable name arity self.now) }
+        ensures taken { IsErrOf result WorldError.NameTaken ↔ (is_free self.now name ≡ false) }
+    {
+        if !self.is_free(&name) {
+            return Err(WorldError::NameTaken);
+        }
+        terms::worlds_grow();
+        let top = self.with_entry(alloc, Entry::Variable(name, arity))?;
+        Ok(World {
+            top,
+            theorems: self.theorems,
+        })
+    }
+
+    /// The world with one more specification, whose matrix is well formed in this one, over its variables.
+    pub fn with_spec(
+        &self,
+        alloc: Global,
+        specification: Specification,
+    ) -> Result<World, WorldError>
+        requires { FitsOver self.now.functions specification.variables specification.matrix }
+        ensures ok { IfOk result (λ w. w ≡ add_specification specification self.now) }
+        ensures taken { IsErrOf result WorldError.NameTaken ↔ (is_free self.now specification.name ≡ false) }
+    {
+        if !self.is_free(&specification.name) {
+            return Err(WorldError::NameTaken);
+        }
+        terms::worlds_grow();
+        let top = self.with_entry(alloc, Entry::Specification(specification))?;
+        Ok(World {
+            top,
+            theorems: self.theorems,
+        })
+    }
+
     /// The world with one more theorem: a sequent without hypotheses that is well formed in this world and holds.
     pub fn with_theorem(
         &self,
@@ -296,12 +458,27 @@ impl World {
         Ok(World { top, theorems })
     }
 
-    fn with_entry(&self, alloc: Global, entry: Entry) -> Result<Link, Memory>
-        ensures { IfOk result (λ link. world_of link ≡ with_entry entry self.now) }
+    /// The world in which an event of this form was accepted too.
+    pub fn with_event(&self, alloc: Global, form: Form) -> Result<World, Memory>
+        requires { IsProper form }
+        ensures { IfOk result (λ w. w ≡ add_event (form_of form) self.now) }
+    {
+        terms::worlds_grow();
+        let top = self.with_entry(alloc, Entry::Event(form))?;
+        Ok(World {
+            top,
+            theorems: self.theorems,
+        })
+    }
+
+    fn with_entry(&self, alloc: Global, entry: Entry) -> Result<Layers, Memory>
+        requires { IsProperEntry entry }
+        ensures world { IfOk result (λ layers. world_of layers ≡ with_entry entry self.now) }
+        ensures proper { IfOk result IsProperTop }
     {
         let rest = self.share()?;
         let layer = Rc::new(alloc, Layer { entry, rest })?;
-        Ok(Link::More(layer))
+        Ok(Layers::More(layer))
     }
 }
 

@@ -5,7 +5,9 @@ use Rattle.worlds.proofs.world.World.with_function.Goals as goal
 
 pub invariant_of-result : goal.invariant_of-result
 invariant_of-result c =
-    let before = subst (λ W. IsWorld W c.self.inside.theorems) c.self.view_is c.self.invariant in
-    rw c.in_ok-top.ensures
-    (with_definition c.worlds_grow.ensures c.args.self.now c.self.inside.theorems before c.args.definition
-    (sym c.is_free.ensures ∙ c.if-not-is_free.false) c.requires.well_formed c.requires.not_recursive)
+    let before = subst (λ W. IsWorld W c.self.inside.theorems) c.self.view_is c.self.invariant.0 in (
+      rw c.in_ok-top.ensures.world
+          (with_definition c.worlds_grow.ensures c.args.self.now c.self.inside.theorems before c.args.definition
+          (sym c.is_free.ensures ∙ c.if-not-is_free.false) c.requires.well_formed c.requires.not_recursive),
+      c.in_ok-top.ensures.proper,
+    )

@@ -5,7 +5,9 @@ use Rattle.worlds.proofs.world.World.with_theorem.Goals as goal
 
 pub invariant_of-result : goal.invariant_of-result
 invariant_of-result c =
-    let before = subst (λ W. IsWorld W c.self.inside.theorems) c.self.view_is c.self.invariant in
-    rw (c.in_ok-top.ensures, c.in-Some.ensures.1)
-    (with_theorem c.worlds_grow.ensures c.args.self.now c.self.inside.theorems before c.args.name c.args.sequent
-    (sym c.is_free.ensures ∙ c.if-not-is_free.false) c.requires.no_hyps c.requires.fits c.requires.holds)
+    let before = subst (λ W. IsWorld W c.self.inside.theorems) c.self.view_is c.self.invariant.0 in (
+      rw (c.in_ok-top.ensures.world, c.in-Some.ensures.1)
+          (with_theorem c.worlds_grow.ensures c.args.self.now c.self.inside.theorems before c.args.name c.args.sequent
+          (sym c.is_free.ensures ∙ c.if-not-is_free.false) c.requires.no_hyps c.requires.fits c.requires.holds),
+      c.in_ok-top.ensures.proper,
+    )
