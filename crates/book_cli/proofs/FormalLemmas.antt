@@ -1,5 +1,5 @@
 -- Formals, one by one.
-use Rattle.std.proofs.Common.{◌≡◌, ℕ, zero, suc, ◌+◌, ◌<◌, ◌≤◌, Bool, true, false, ◌||◌, bytes_eq, List, [], ◌∷◌, ◌++◌, length, get_or, map, take, drop, Result, Ok, Err, if◌then◌else◌, refl, ap, sym, ◌∙◌, arith, append_assoc}
+use Rattle.std.proofs.Common.{◌≡◌, ℕ, zero, suc, ◌+◌, ◌<◌, ◌≤◌, Bool, true, false, ◌||◌, bytes_eq, List, [], ◌∷◌, ◌++◌, length, get_or, map, take, drop, Ok, Err, if◌then◌else◌, refl, ap, sym, ◌∙◌, arith, append_assoc}
 use native.Mathlib.Numerals.{unary_clauses}
 use Rattle.std.proofs.lemmas.List.{drop_all, append-nil}
 use Rattle.lisp_data.specs.Values.{Name}
@@ -8,7 +8,7 @@ use Rattle.lisp_data.specs.declared.detail.Detail.{Detail}
 use Rattle.lisp_data.specs.declared.detail.Detail.TheVariants as detail
 use Rattle.lisp_data.specs.declared.form.Form.{Form}
 use Rattle.terms.specs.Worlds.{is_in}
-use Rattle.terms.specs.Translation.{Outcome, and_then, map_outcome, and_rest, distinct_after}
+use Rattle.terms.specs.Translation.{Outcome, map_outcome, and_rest, distinct_after}
 use Rattle.event_forms.proofs.ItemLemmas.{proper_at}
 use Rattle.book_cli.specs.Events.{formal_of, names_of}
 

@@ -5,13 +5,11 @@ use Rattle.std.proofs.Math.Seq.{take-append-add, take-length}
 use Rattle.lisp_data.specs.Datum.{Datum}
 use Rattle.ports.specs.Streams.{Grows, GrowsByFront}
 use Rattle.ports.proofs.Streams.{Grows-trans}
-use Rattle.terms.specs.Worlds.{World}
 use Rattle.book_cli.specs.declared.progress.Progress.{Progress}
-use Rattle.book_cli.specs.declared.refusal.Refusal.{Refusal}
 use Rattle.book_cli.specs.Begun.{IsBegun}
 use Rattle.book_cli.specs.Steps.{IsNext}
-use Rattle.book_cli.specs.Verdicts.{Verdict, Accepted, Refused, verdict}
-use Rattle.book_cli.specs.Report.{Read, all_lines, after, is_refusal, goes_on, event_line, turn_lines, end_lines, report_from, world_from, all_accepted, accepts, last_line}
+use Rattle.book_cli.specs.Verdicts.{Verdict, Accepted, Redundant, Refused, verdict}
+use Rattle.book_cli.specs.Report.{Read, all_lines, after, is_refusal, goes_on, event_line, turn_lines, end_lines, report_from, world_from, accepts, last_line}
 
 module _ (a b c : Option (List ℕ)) where
   -- a piece more
@@ -51,13 +49,15 @@ pub on_err : {T E : Type 0} {P : Type 0} (r : Result T E) → P → OnErr r P
 on_err (Ok x) p = tt
 on_err (Err e) p = p
 
--- an event that is accepted, or after which the run continues, and one with which it ends
+-- an event that isn't refused, or after which the run continues, and one with which it ends
 goes : (continues : Bool) (v : Verdict) (accepted : Bool) → accepted ≡ not (is_refusal v) → (accepted || continues) ≡ true → goes_on continues v ≡ true
 goes continues (Accepted next) accepted e h = refl
+goes continues Redundant accepted e h = refl
 goes continues (Refused why) accepted e h = ap (λ b. b || continues) (sym e) ∙ h
 
 stops : (continues : Bool) (v : Verdict) (accepted : Bool) → accepted ≡ not (is_refusal v) → (accepted || continues) ≡ false → goes_on continues v ≡ false
 stops continues (Accepted next) accepted e h = absurd (cc)
+stops continues Redundant accepted e h = absurd (cc)
 stops continues (Refused why) accepted e h = ap (λ b. b || continues) (sym e) ∙ h
 
 -- what comes after an event's lines
@@ -145,6 +145,7 @@ module _ (continues : Bool) (p q : Progress) (e : Datum × ℕ) (accepted : Bool
       where
         kept : (v : Verdict) → goes_on continues v ≡ false → (after p v).world ≡ p.world
         kept (Accepted w) k = absurd (cc)
+        kept Redundant k = absurd (cc)
         kept (Refused why) k = refl
 
     pub fewer : length read.0 ≡ length rest.0 + 1
@@ -156,6 +157,7 @@ module _ (continues : Bool) (p q : Progress) (e : Datum × ℕ) (accepted : Bool
     where
       one : (v : Verdict) → (after p v).handled ≡ p.handled + 1
       one (Accepted w) = refl
+      one Redundant = refl
       one (Refused why) = refl
 
   pub counted_within : p.counted ≤ p.handled → q.counted ≤ q.handled
@@ -163,6 +165,7 @@ module _ (continues : Bool) (p q : Progress) (e : Datum × ℕ) (accepted : Bool
     where
       within : (v : Verdict) → (after p v).counted ≤ (after p v).handled
       within (Accepted w) = omega (arith, h)
+      within Redundant = omega (arith, h)
       within (Refused why) = omega (arith, h)
 
 -- all were accepted so far, and whether the next was

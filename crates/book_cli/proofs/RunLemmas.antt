@@ -1,5 +1,5 @@
 -- The book that is read, and the one word.
-use Rattle.std.proofs.Common.{◌≡◌, ℕ, ◌+◌, ◌<◌, ◌≤◌, Bool, true, false, List, [], ◌∷◌, ◌++◌, length, get_or, take, Option, Some, None, IfSome, IsTrue, nat_lt, refl, ap, sym, ◌∙◌, subst, arith, length-append}
+use Rattle.std.proofs.Common.{◌≡◌, ℕ, ◌<◌, ◌≤◌, Bool, true, false, List, [], ◌∷◌, ◌++◌, length, get_or, take, Option, Some, None, IfSome, IsTrue, nat_lt, refl, ap, sym, ◌∙◌, subst, arith, length-append}
 use Rattle.std.proofs.lemmas.Bool.Decides.{nat_tests}
 use Rattle.std.proofs.lemmas.List.{take-append-le, append-nil}
 use Rattle.std.specs.Prelude.{if◌then◌else◌, nat_eq}
@@ -7,13 +7,12 @@ use Rattle.std.specs.Cmp.Lexicographic.{same_text, other_text}
 use lib.Pointwise.{pointwise}
 use Rattle.ports.specs.Streams.{Grows, GrowsByFront}
 use Rattle.ports.specs.ReadAll.{IsWhole, IsCut}
-use Rattle.ports.proofs.Streams.{Grows-trans}
 use Rattle.lisp_data.specs.Datum.{Datum}
 use Rattle.lisp_reader.specs.Grammar.{parse, book_of}
 use Rattle.lisp_reader.proofs.Ends.{goes_on}
 use Rattle.book_cli.specs.declared.progress.Progress.{Progress}
 use Rattle.terms.specs.Sound.{Sound}
-use Rattle.book_cli.specs.Report.{Read, accepts, accepts_all, report, report_of, world_made}
+use Rattle.book_cli.specs.Report.{Read, accepts, accepts_all, report_of, world_made}
 use Rattle.book_cli.specs.Outcomes.{IsReported, IsAcceptedRun, IsRefusedRun}
 use Rattle.book_cli.proofs.ReportLemmas.{begun_cut}
 

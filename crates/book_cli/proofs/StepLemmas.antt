@@ -1,5 +1,5 @@
 -- The answers to events.
-use Rattle.std.proofs.Common.{◌≡◌, ℕ, Bool, true, false, ◌&&◌, List, [], ◌∷◌, Some, Result, Ok, Err, if◌then◌else◌, refl, ap, sym, ◌∙◌, subst}
+use Rattle.std.proofs.Common.{◌≡◌, ◌++◌, OnOk, append_assoc, ℕ, Bool, true, false, ◌&&◌, List, [], ◌∷◌, Some, Result, Ok, Err, if◌then◌else◌, refl, ap, sym, ◌∙◌, subst}
 use Rattle.std.specs.Result.{IsErr, IsErrAnd}
 use Rattle.std.proofs.lemmas.Bool.{and_parts}
 use Rattle.lisp_data.specs.Values.{Name}
@@ -80,3 +80,8 @@ concluded W next n t p s e yes-proves is =
 
 pub one_proved : (W : World) (t : Tm) (proved : Conclusion) (before : List Conclusion) → before ≡ proved ∷ [] → proved.world ≡ W → proved.sequent ≡ claim t → ProvesAll W (claim t ∷ []) before
 one_proved W t proved before e world sequent = subst (ProvesAll W (claim t ∷ [])) (sym e) ((world, sequent), tt)
+
+-- two pieces, one behind the other
+pub behind : {E : Type 0} (old first second middle new : List ℕ) (r : Result (Unit {0}) E) → middle ≡ old ++ first → OnOk r (new ≡ middle ++ second) → OnOk r (new ≡ old ++ (first ++ second))
+behind old first second middle new (Ok x) e h = h ∙ ap (λ xs. xs ++ second) e ∙ append_assoc old first second
+behind old first second middle new (Err x) e h = tt

@@ -1,19 +1,19 @@
 -- What an event defines is well formed.
-use Rattle.std.proofs.Common.{◌≡◌, ℕ, Bool, true, false, cond, not, ◌&&◌, ◌||◌, List, [], ◌∷◌, length, map, bytes_eq, codes, nat_le, Option, Some, None, IfSome, Result, Ok, Err, is_some, if◌then◌else◌, refl, sym, ap, ◌∙◌, subst}
+use Rattle.std.proofs.Common.{◌≡◌, ℕ, Bool, true, false, cond, ◌&&◌, ◌||◌, List, [], ◌∷◌, length, bytes_eq, codes, nat_le, Option, Some, None, Ok, Err, if◌then◌else◌, refl, sym, ap, ◌∙◌, subst}
 use Rattle.std.proofs.lemmas.Bool.{or_parts}
 use Rattle.lisp_data.specs.Values.{Name}
 use Rattle.lisp_data.specs.Datum.{Datum}
 use Rattle.lisp_data.specs.declared.detail.Detail.{Detail}
 use Rattle.lisp_data.specs.declared.detail.Detail.TheVariants as detail
 use Rattle.terms.specs.Primitives.{Operation, primitive, primitives, lookup}
-use Rattle.terms.specs.Terms.{Tm, Var, Quote, Call, Tms, Done, More, Over}
+use Rattle.terms.specs.Terms.{Tm, Var, Quote, Call, Tms, Done, More}
 use Rattle.terms.specs.Definitions.{find}
 use Rattle.terms.specs.BuiltIn.{not_def, binary_append_def}
 use Rattle.terms.specs.Worlds.{World, Functions, IsIn, is_in, Distinct, arity, arity_by, Fits}
 use Rattle.terms.specs.Measures.{mentions, mentions_in, is_nested, is_nested_in}
 use Rattle.terms.specs.Formed.{with_def, IsWellFormed}
 use Rattle.terms.specs.Sound.{Sound}
-use Rattle.terms.specs.Translation.{Takes, Scope, Outcome, and_then, map_outcome, distinct_after, translate}
+use Rattle.terms.specs.Translation.{Takes, Outcome, and_then, map_outcome, distinct_after, translate}
 use Rattle.terms.specs.TranslationLaws.{HasWords, TranslatedTermsFit}
 use Rattle.terms.specs.declared.definition.Definition.{Definition}
 use Rattle.terms.proofs.Extend.{over_map, arity_later}
@@ -22,7 +22,6 @@ use Rattle.terms.proofs.Names.{same_name, name_self}
 use Rattle.terms.specs.Names.{is_function_name}
 use Rattle.worlds.specs.Names.{is_free}
 use Rattle.worlds.proofs.Free.{free}
-use Rattle.event_forms.specs.Refused.{bad_part, not_an_event}
 use Rattle.event_forms.specs.ProofTexts.{any}
 use Rattle.book_cli.specs.Events.{most_formals, names_of, distinct, formals_of, with_own, function, unless_recursive, body_of, definition_of, new_name}
 

@@ -1,10 +1,10 @@
 -- What the events of a book define.
-use Rattle.std.specs.Prelude.{ℕ, Bool, true, false, ◌&&◌, if◌then◌else◌, nat_le, bytes_eq, codes, List, [], ◌∷◌, length, Option, Some, None, Ok, Err}
+use Rattle.std.specs.Prelude.{ℕ, Bool, true, false, ◌&&◌, if◌then◌else◌, nat_le, bytes_eq, codes, List, [], ◌∷◌, length, Some, None, Ok, Err}
 use Rattle.lisp_data.specs.Values.{Name}
 use Rattle.lisp_data.specs.Datum.{Datum, SymForm}
 use Rattle.lisp_data.specs.declared.detail.Detail.TheVariants as detail
 use Rattle.terms.specs.Terms.{Tm, same_tm}
-use Rattle.terms.specs.Worlds.{World, Functions, arity, is_in}
+use Rattle.terms.specs.Worlds.{World, arity, is_in}
 use Rattle.terms.specs.Measures.{mentions}
 use Rattle.terms.specs.Names.{is_variable_name, is_function_name}
 use Rattle.terms.specs.Translation.{Takes, Outcome, and_then, map_outcome, and_rest, distinct_after, translate}

@@ -1,5 +1,6 @@
 -- What ends the handling of an event.
 use Rattle.std.specs.Prelude.{◌≡◌, ℕ, List, [], Result, Ok, Err}
+use Rattle.lisp_data.specs.Datum.{Datum}
 use Rattle.lisp_data.specs.declared.detail.Detail.{Detail}
 use Rattle.terms.specs.Worlds.{World}
 use Rattle.terms.specs.Translation.{Outcome}
@@ -9,13 +10,14 @@ use Rattle.event_forms.specs.declared.errors.EventError.{EventError}
 use Rattle.event_forms.specs.declared.errors.EventError.TheVariants as event
 use Rattle.book_cli.specs.Verdicts as verdict
 use Rattle.book_cli.specs.Verdicts.{Verdict}
-use Rattle.book_cli.specs.declared.refusal.Refusal.{Refusal}
 use Rattle.book_cli.specs.declared.refusal.Refusal.TheVariants.{Coded, ProofWrong}
 use Rattle.book_cli.specs.declared.halt.Halt.{Halt}
 use Rattle.book_cli.specs.declared.halt.Halt.TheVariants.{Refused, Memory}
 use Rattle.terms.specs.declared.sequent.Sequent.{Sequent}
-use Rattle.book_cli.specs.Steps.{ProvesAll}
+use Rattle.book_cli.specs.Steps.{ProvesAll, IsAccepted, IsRedundant}
 use Rattle.book_cli.specs.declared.steps.Made.{Made}
+use Rattle.book_cli.specs.declared.steps.StepAnswer.{StepAnswer}
+use Rattle.book_cli.specs.declared.steps.StepAnswer.TheVariants as answer
 
 -- what an error says, where it isn't want of memory
 abbrev pub IsCoded : ℕ → Detail → Halt → Type 0
@@ -43,15 +45,23 @@ abbrev pub IsFromTerm : TermError → Halt → Type 0
 IsFromTerm (term.Refused code detail) e = e ≡ Refused (Coded code detail)
 IsFromTerm term.Memory e = e ≡ Memory
 
--- what an accepted event makes: this world, this line, and these conditions proved in the world before it
-pub record IsMade (W : World) (conditions : List Sequent) (v : Verdict) (ok : List ℕ) (made : Made) : Type 0 where
+-- what an accepted event makes: this world, and these conditions proved in the world before it
+pub record IsMade (W : World) (conditions : List Sequent) (v : Verdict) (made : Made) : Type 0 where
   pub verdict_is : v ≡ verdict.Accepted made.world
-  pub line_is : made.line ≡ ok
   pub before : ProvesAll W conditions made.proofs.before
   pub after : made.proofs.after ≡ []
 
 -- the answer is the verdict's
-abbrev pub Judges : World → List Sequent → Verdict → List ℕ → Result Made Halt → Type 0
-Judges W conditions v ok (Ok made) = IsMade W conditions v ok made
-Judges W conditions v ok (Err (Refused why)) = v ≡ verdict.Refused why
-Judges W conditions v ok (Err Memory) = Unit {0}
+abbrev pub Judges : World → List Sequent → Verdict → Result Made Halt → Type 0
+Judges W conditions v (Ok made) = IsMade W conditions v made
+Judges W conditions v (Err (Refused why)) = v ≡ verdict.Refused why
+Judges W conditions v (Err Memory) = Unit {0}
+
+-- the answer to an event is the verdict's, with its line; a refusal has none yet
+abbrev pub Answers : World → Datum → Result StepAnswer Halt → Type 0
+Answers W form (Ok (answer.Accepted next lines proofs)) = IsAccepted W form next lines proofs
+Answers W form (Ok (answer.Redundant lines)) = IsRedundant W form lines
+Answers W form (Ok (answer.Printed lines)) = ⊥
+Answers W form (Ok (answer.Refused code lines)) = ⊥
+Answers W form (Err (Refused why)) = verdict.verdict W form ≡ verdict.Refused why
+Answers W form (Err Memory) = Unit {0}

@@ -1,5 +1,6 @@
 pub mod Events
 pub mod Refusals
+pub mod Redundancy
 pub mod Verdicts
 pub mod Report
 pub mod Steps

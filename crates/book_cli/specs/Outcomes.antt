@@ -1,5 +1,5 @@
 -- How a run ends.
-use Rattle.std.specs.Prelude.{◌≡◌, ℕ, Bool, true, false, List, [], ⊤, Option, Some, IfSome, Result, Ok, Err}
+use Rattle.std.specs.Prelude.{◌≡◌, ℕ, Bool, true, false, List, ⊤, Option, IfSome, Result, Ok, Err}
 use Rattle.ports.specs.Streams.{Grows}
 use Rattle.ports.specs.ReadAll.{IsWhole}
 use Rattle.lisp_reader.specs.Grammar.{book_of}

@@ -1,5 +1,5 @@
 -- What is written for a book, and the world that it makes.
-use Rattle.std.specs.Prelude.{◌≡◌, ℕ, ◌+◌, Bool, true, false, ◌&&◌, List, [], ◌∷◌, ◌++◌, length, Option, Some, None, Ok, Err, codes, if◌then◌else◌}
+use Rattle.std.specs.Prelude.{ℕ, ◌+◌, Bool, true, false, List, [], ◌∷◌, ◌++◌, Option, Some, None, Ok, Err, codes, if◌then◌else◌}
 use Rattle.std.specs.Fmt.{decimal}
 use Rattle.lisp_data.specs.Datum.{Datum}
 use Rattle.lisp_data.specs.declared.detail.Detail.TheVariants.{Absent}
@@ -13,7 +13,7 @@ use Rattle.book_cli.specs.declared.progress.Progress.{Progress}
 use Rattle.book_cli.specs.declared.refusal.Refusal.{Refusal}
 use Rattle.book_cli.specs.declared.refusal.Refusal.TheVariants.{Coded}
 use Rattle.book_cli.specs.Refusals.{refusal_text}
-use Rattle.book_cli.specs.Verdicts.{Verdict, Accepted, Refused, verdict}
+use Rattle.book_cli.specs.Verdicts.{Verdict, Accepted, Redundant, Refused, verdict}
 
 -- forms with the places of their first bytes, and the first fault with its place, or the end
 abbrev pub Read : Type 0
@@ -23,13 +23,15 @@ Read = List (Datum × ℕ) × Option (ℕ × ℕ)
 abbrev pub begin : Progress
 begin = record { world = initial_world; handled = 0; counted = 0 }
 
--- a refused event leaves the world, and doesn't count
+-- a redundant or refused event leaves the world, and a refused one doesn't count
 abbrev pub after : Progress → Verdict → Progress
 after p (Accepted next) = record { world = next; handled = p.handled + 1; counted = p.counted + 1 }
+after p Redundant = record { world = p.world; handled = p.handled + 1; counted = p.counted + 1 }
 after p (Refused why) = record { world = p.world; handled = p.handled + 1; counted = p.counted }
 
 abbrev pub is_refusal : Verdict → Bool
 is_refusal (Accepted next) = false
+is_refusal Redundant = false
 is_refusal (Refused why) = true
 
 -- the first refusal ends the run, unless it is to continue
@@ -48,16 +50,20 @@ event_name (IncludeBook book) = codes "include-book " ++ book
 event_name (Defun f formals body) = codes "defun " ++ f
 event_name (Defthm n formula proof) = codes "defthm " ++ n
 
-abbrev pub ok_text : Event → List ℕ
-ok_text event = codes "ok " ++ (event_name event ++ codes "\n")
+-- the line of an event, which begins with a word on what became of it
+abbrev pub event_text : List ℕ → Event → List ℕ
+event_text begin event = begin ++ (event_name event ++ codes "\n")
 
--- a line is written of events alone
-abbrev pub line_of : Outcome Event → List ℕ
-line_of (Ok event) = ok_text event
-line_of (Err e) = []
+-- such a line is written of events alone
+abbrev pub text_of : List ℕ → Outcome Event → List ℕ
+text_of begin (Ok event) = event_text begin event
+text_of begin (Err e) = []
 
 abbrev pub ok_line : Datum → List ℕ
-ok_line form = line_of (event_of form)
+ok_line form = text_of (codes "ok ") (event_of form)
+
+abbrev pub redundant_line : Datum → List ℕ
+redundant_line form = text_of (codes "redundant ") (event_of form)
 
 -- events are counted from 1, and places from 0
 abbrev pub refused_line : ℕ → Refusal → ℕ → List ℕ
@@ -70,6 +76,7 @@ last_line p = codes "accepted " ++ (decimal p.counted ++ (codes " events " ++ (d
 -- the line of a form, by its verdict and its index
 abbrev pub verdict_line : Verdict → Datum × ℕ → ℕ → List ℕ
 verdict_line (Accepted next) e index = ok_line e.0
+verdict_line Redundant e index = redundant_line e.0
 verdict_line (Refused why) e index = refused_line index why e.1
 
 -- the line of an event

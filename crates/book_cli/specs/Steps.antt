@@ -1,5 +1,5 @@
 -- What the handling of one event answers.
-use Rattle.std.specs.Prelude.{◌≡◌, ℕ, List, [], ◌∷◌, Bool, not, Option, Some, None, Ok, Err}
+use Rattle.std.specs.Prelude.{◌≡◌, ℕ, List, [], ◌∷◌, Bool, not, Ok, Err}
 use Rattle.lisp_data.specs.Datum.{Datum}
 use Rattle.terms.specs.Terms.{Tm}
 use Rattle.terms.specs.Worlds.{World, arity}
@@ -13,11 +13,10 @@ use Rattle.book_cli.specs.declared.progress.Progress.{Progress}
 use Rattle.book_cli.specs.declared.refusal.Refusal.{Refusal}
 use Rattle.book_cli.specs.declared.refusal.Refusal.TheVariants.{Coded, ProofWrong}
 use Rattle.book_cli.specs.declared.steps.EventProofs.{EventProofs}
-use Rattle.book_cli.specs.declared.steps.Made.{Made}
 use Rattle.book_cli.specs.declared.steps.StepAnswer.{StepAnswer}
 use Rattle.book_cli.specs.declared.steps.StepAnswer.TheVariants as answer
-use Rattle.book_cli.specs.Verdicts.{Verdict, Accepted, Refused, verdict}
-use Rattle.book_cli.specs.Report.{ok_line, refused_line, after, is_refusal}
+use Rattle.book_cli.specs.Verdicts.{Verdict, Accepted, Redundant, Refused, verdict}
+use Rattle.book_cli.specs.Report.{ok_line, redundant_line, refused_line, after, is_refusal}
 
 abbrev pub claims : Outcome Tm → List Sequent
 claims (Ok formula) = claim formula ∷ []
@@ -50,12 +49,10 @@ pub record IsAccepted (W : World) (form : Datum) (next : World) (lines : List (L
   pub before : ProvesAll W (conditions_of W (event_of form)) proofs.before
   pub after : proofs.after ≡ []
 
--- what was made, as an answer
-abbrev pub IsAcceptance : Made → StepAnswer → Type 0
-IsAcceptance made (answer.Accepted next lines proofs) = (next ≡ made.world) × (lines ≡ made.line ∷ []) × (proofs ≡ made.proofs)
-IsAcceptance made (answer.Redundant lines) = ⊥
-IsAcceptance made (answer.Printed lines) = ⊥
-IsAcceptance made (answer.Refused code lines) = ⊥
+-- an event that was accepted before has this line
+pub record IsRedundant (W : World) (form : Datum) (lines : List (List ℕ)) : Type 0 where
+  pub verdict_is : verdict W form ≡ Redundant
+  pub lines_are : lines ≡ redundant_line form ∷ []
 
 -- a refused event has this code and this line
 pub record IsRefused (W : World) (form : Datum) (place index code : ℕ) (lines : List (List ℕ)) : Type 0 where
@@ -64,14 +61,14 @@ pub record IsRefused (W : World) (form : Datum) (place index code : ℕ) (lines 
   pub code_is : code ≡ refusal_code why
   pub lines_are : lines ≡ refused_line index why place ∷ []
 
--- the answer is the verdict's; no event is redundant or printed as yet
+-- the answer is the verdict's; no value is printed as yet
 abbrev pub IsStep : World → Datum → ℕ → ℕ → StepAnswer → Type 0
 IsStep W form place index (answer.Accepted next lines proofs) = IsAccepted W form next lines proofs
-IsStep W form place index (answer.Redundant lines) = ⊥
+IsStep W form place index (answer.Redundant lines) = IsRedundant W form lines
 IsStep W form place index (answer.Printed lines) = ⊥
 IsStep W form place index (answer.Refused code lines) = IsRefused W form place index code lines
 
--- the progress after an event, and whether it was accepted
+-- the progress after an event, and whether it wasn't refused
 pub record IsNext (v : Verdict) (old new : Progress) (accepted : Bool) : Type 0 where
   pub progress : new ≡ after old v
   pub accepts : accepted ≡ not (is_refusal v)

@@ -1,13 +1,12 @@
 -- What becomes of an event.
-use Rattle.std.specs.Prelude.{ℕ, List, ◌∷◌, Option, Some, None, Ok, Err, if◌then◌else◌}
+use Rattle.std.specs.Prelude.{ℕ, Option, Some, None, Ok, Err, if◌then◌else◌}
 use Rattle.lisp_data.specs.Values.{Name}
 use Rattle.lisp_data.specs.Datum.{Datum}
 use Rattle.lisp_data.specs.declared.detail.Detail.TheVariants.{Absent}
 use Rattle.terms.specs.Terms.{Tm}
 use Rattle.terms.specs.Worlds.{World, arity}
-use Rattle.terms.specs.Sound.{add_definition, add_theorem}
+use Rattle.terms.specs.Sound.{add_definition, add_theorem, add_event}
 use Rattle.terms.specs.Translation.{Outcome, translate}
-use Rattle.terms.specs.declared.definition.Definition.{Definition}
 use Rattle.terms.specs.declared.sequent.Sequent.{Sequent}
 use Rattle.proof_objects.specs.ProofTrees.{ProofTree, steps}
 use Rattle.kernel.specs.Concludes.{concludes, first_bad}
@@ -15,12 +14,14 @@ use Rattle.kernel.specs.declared.errors.RuleName.TheVariants.{Rule, Claim}
 use Rattle.event_forms.specs.Shapes.{Event, InPackage, IncludeBook, Defun, Defthm, event_of}
 use Rattle.event_forms.specs.ProofTexts.{any, proof_of}
 use Rattle.book_cli.specs.Events.{new_name, definition_of, claim, proves}
+use Rattle.book_cli.specs.Redundancy.{is_redundant}
 use Rattle.book_cli.specs.declared.refusal.Refusal.{Refusal}
 use Rattle.book_cli.specs.declared.refusal.Refusal.TheVariants.{Coded, ProofWrong}
 
--- accepted, with the world that it makes, or refused
+-- accepted, with the world that it makes, accepted before, or refused
 pub data Verdict : Type 0 where
   Accepted : (world : World) → Verdict
+  Redundant : Verdict
   Refused : (why : Refusal) → Verdict
 
 -- something goes on, and a refusal is the verdict
@@ -50,6 +51,16 @@ of_event W (IncludeBook book) = Accepted W
 of_event W (Defun f formals body) = on (new_name W f) (λ _. on (definition_of W f formals body) (λ d. Accepted (add_definition d W)))
 of_event W (Defthm n formula proof) = on (new_name W n) (λ _. on (translate (arity W.functions) any formula) (λ t. of_proof W n t proof))
 
+-- an accepted event is kept in the world that it makes
+abbrev pub kept : Datum → Verdict → Verdict
+kept form (Accepted next) = Accepted (add_event form next)
+kept form Redundant = Redundant
+kept form (Refused why) = Refused why
+
+-- nothing more of an event is looked at where it was accepted before
+abbrev pub unless_redundant : World → Datum → Event → Verdict
+unless_redundant W form event = if is_redundant W form event then Redundant else kept form (of_event W event)
+
 -- the shape of an event comes first
 abbrev pub verdict : World → Datum → Verdict
-verdict W form = on (event_of form) (of_event W)
+verdict W form = on (event_of form) (unless_redundant W form)

@@ -7,6 +7,7 @@ mod lines;
 mod own;
 mod program;
 mod progress;
+mod redundancy;
 mod refusal;
 mod report;
 mod status;

@@ -1,45 +1,42 @@
 //! The lines of a report.
 
-ghost use Rattle.std.specs.Prelude.{◌≡◌, ◌++◌, codes, IfOk};
+ghost use Rattle.std.specs.Prelude.{◌≡◌, ◌++◌, codes, IfOk, OnOk};
 ghost use Rattle.std.specs.Fmt.{decimal};
-ghost use Rattle.book_cli.specs.Report.{refused_line};
+ghost use Rattle.event_forms.specs.ShapeView.{seen};
+ghost use Rattle.book_cli.specs.Report.{event_name, event_text, refused_line};
 
 use crate::refusal::Refusal;
-use lisp_data::Symbol;
+use event_forms::Event;
 use lists::{Memory, Text};
 use std::alloc::Global;
 
-/// The line of an accepted function.
-pub(crate) fn defun_line(alloc: Global, name: &Symbol) -> Result<Text, Memory>
-    ensures { IfOk result (λ text. text ≡ codes "ok " ++ ((codes "defun " ++ name.now) ++ codes "\n")) }
+/// Writes an event's word and its name. Where there is no memory a part of it may be there.
+fn write_name(event: &Event<'_>, out: &mut Text) -> Result<(), Memory>
+    ensures { OnOk result (out.new ≡ out.old ++ event_name (seen event.now)) }
 {
-    let name = name.text();
-    let text = format!(in alloc; "ok defun {name}\n")?;
-    Text::from_slice(alloc, text.as_bytes())
+    match event {
+        Event::InPackage => out.extend(b"in-package ACL2"),
+        Event::IncludeBook(book) => {
+            out.extend(b"include-book ")?;
+            out.extend(book)
+        }
+        Event::Defun(name, _, _) => {
+            out.extend(b"defun ")?;
+            out.extend(name.text().as_bytes())
+        }
+        Event::Defthm(name, _, _) => {
+            out.extend(b"defthm ")?;
+            out.extend(name.text().as_bytes())
+        }
+    }
 }
 
-/// The line of an accepted theorem.
-pub(crate) fn defthm_line(alloc: Global, name: &Symbol) -> Result<Text, Memory>
-    ensures { IfOk result (λ text. text ≡ codes "ok " ++ ((codes "defthm " ++ name.now) ++ codes "\n")) }
+/// The line of an event, which begins with a word on what became of it and a blank.
+pub(crate) fn event_line(alloc: Global, begin: &str, event: &Event<'_>) -> Result<Text, Memory>
+    ensures { IfOk result (λ text. text ≡ event_text begin.now (seen event.now)) }
 {
-    let name = name.text();
-    let text = format!(in alloc; "ok defthm {name}\n")?;
-    Text::from_slice(alloc, text.as_bytes())
-}
-
-/// The line of the package.
-pub(crate) fn in_package_line(alloc: Global) -> Result<Text, Memory>
-    ensures { IfOk result (λ text. text ≡ codes "ok " ++ (codes "in-package ACL2" ++ codes "\n")) }
-{
-    Text::from_slice(alloc, b"ok in-package ACL2\n")
-}
-
-/// The line of an included book.
-pub(crate) fn include_book_line(alloc: Global, book: &[u8]) -> Result<Text, Memory>
-    ensures { IfOk result (λ text. text ≡ codes "ok " ++ ((codes "include-book " ++ book.now) ++ codes "\n")) }
-{
-    let mut text = Text::from_slice(alloc, b"ok include-book ")?;
-    text.extend(book)?;
+    let mut text = Text::from_slice(alloc, begin.as_bytes())?;
+    write_name(event, &mut text)?;
     text.push(b'\n')?;
     Ok(text)
 }

@@ -21,7 +21,7 @@ use ports::{Sink, put_all};
 use std::alloc::Global;
 use worlds::World;
 
-/// Handles an event and writes its line. Answers whether it was accepted.
+/// Handles an event and writes its lines. Answers whether it wasn't refused.
 fn handle<K: Sink>(
     alloc: Global,
     progress: &mut Progress,
@@ -46,12 +46,18 @@ fn handle<K: Sink>(
             progress.counted += 1;
             Ok(true)
         }
+        StepAnswer::Redundant(lines) => {
+            write_lines(lines.as_slice(), out)?;
+            progress.handled += 1;
+            progress.counted += 1;
+            Ok(true)
+        }
         StepAnswer::Refused(_, lines) => {
             write_lines(lines.as_slice(), out)?;
             progress.handled += 1;
             Ok(false)
         }
-        StepAnswer::Redundant(_) | StepAnswer::Printed(_) => unreachable!(),
+        StepAnswer::Printed(_) => unreachable!(),
     }
 }
 
@@ -86,7 +92,7 @@ fn still_all(all: bool, accepted: bool) -> bool
     all && accepted
 }
 
-/// Handles an event and writes its lines, with the last line where the run ends with it. Answers whether it was accepted.
+/// Handles an event and writes its lines, with the last line where the run ends with it. Answers whether it wasn't refused.
 fn take_event<K: Sink>(
     alloc: Global,
     progress: &mut Progress,

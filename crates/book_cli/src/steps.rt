@@ -4,24 +4,24 @@ ghost use Rattle.std.specs.Prelude.{◌≡◌, ◌<◌, ◌^◌, ◌++◌, ◌�
 ghost use Rattle.lisp_data.specs.FormView.{form_of, IsProper, AllProper};
 ghost use Rattle.proof_objects.specs.ProofTrees.{steps};
 ghost use Rattle.worlds.specs.Names.{is_free};
-ghost use Rattle.terms.specs.Sound.{add_definition, add_theorem};
+ghost use Rattle.terms.specs.Sound.{add_definition, add_theorem, add_event};
 ghost use Rattle.terms.specs.Formed.{IsWellFormed};
 ghost use Rattle.terms.specs.Measures.{mentions};
 ghost use Rattle.kernel.specs.Concludes.{concludes};
 ghost use Rattle.terms.specs.Translation.{translate};
 ghost use Rattle.terms.specs.Worlds.{arity};
 ghost use Rattle.event_forms.specs.ProofTexts.{any};
-ghost use Rattle.event_forms.specs.Shapes.{Defun, Defthm, event_of};
+ghost use Rattle.event_forms.specs.Shapes.{Defun, Defthm};
 ghost use Rattle.event_forms.specs.ShapeView.{seen, if_given, HasProperParts};
 ghost use Rattle.book_cli.specs.Events.{claim};
-ghost use Rattle.book_cli.specs.Halts.{Judges};
-ghost use Rattle.book_cli.specs.Report.{ok_line, ok_text, event_name};
-ghost use Rattle.book_cli.specs.Verdicts.{of_event, of_proof, of_conclusion, verdict};
+ghost use Rattle.book_cli.specs.Halts.{Judges, Answers};
+ghost use Rattle.book_cli.specs.Verdicts.{of_event, of_proof, of_conclusion};
 ghost use Rattle.book_cli.specs.Steps.{IsStep, claims, conditions_of};
 
 use crate::definitions::{check_name, proves, read_definition};
 use crate::halt::Halt;
-use crate::lines::{defthm_line, defun_line, in_package_line, include_book_line, refused_text};
+use crate::lines::{event_line, refused_text};
+use crate::redundancy::is_redundant;
 use crate::refusal::Refusal;
 use event_forms::{Event as EventForm, read_event, read_proof};
 use kernel::{CheckError, Proved, RuleName, check};
@@ -95,10 +95,9 @@ pub enum StepAnswer {
     Refused(u8, Lines),
 }
 
-/// What an accepted event makes: a world, a line of the report, and its proofs.
+/// What an accepted event makes: a world, in which it isn't kept yet, and its proofs.
 pub(crate) struct Made {
     pub world: World,
-    pub line: Text,
     pub proofs: EventProofs,
 }
 
@@ -106,7 +105,6 @@ impl Drop for Made {
     fn drop(self) {
         let Made {
             world: _,
-            line: _,
             proofs: _,
         } = self;
     }
@@ -121,18 +119,15 @@ fn one_line(alloc: Global, line: Text) -> Result<Lines, Memory>
 }
 
 impl Made {
-    ghost use Rattle.book_cli.specs.Steps.{IsAcceptance};
-
-    fn into_answer(self, alloc: Global) -> Result<StepAnswer, Memory>
-        ensures { IfOk result (IsAcceptance self) }
+    /// Keeps the event in the world.
+    fn keep(self, alloc: Global, form: &Form) -> Result<(World, EventProofs), Memory>
+        requires { IsProper form.now }
+        ensures world { IfOk result (λ kept. kept.0 ≡ add_event (form_of form.now) self.world) }
+        ensures proofs { IfOk result (λ kept. kept.1 ≡ self.proofs) }
     {
-        let Made {
-            world,
-            line,
-            proofs,
-        } = self;
-        let lines = one_line(alloc, line)?;
-        Ok(StepAnswer::Accepted(world, lines, proofs))
+        let Made { world, proofs } = self;
+        let world = world.with_event(alloc, form.copy(alloc)?)?;
+        Ok((world, proofs))
     }
 }
 
@@ -147,8 +142,8 @@ pub fn step(
     requires { IsProper located.now.form }
     ensures { IfOk result (IsStep world.now (form_of located.now.form) located.now.place index) }
 {
-    match judge_form(alloc, world, &located.form) {
-        Ok(made) => made.into_answer(alloc),
+    match answer(alloc, world, &located.form) {
+        Ok(answer) => Ok(answer),
         Err(halt) => match halt {
             Halt::Refused(why) => {
                 let line = refused_text(alloc, index, &why, located.place)?;
@@ -160,28 +155,34 @@ pub fn step(
     }
 }
 
-fn judge_form(alloc: Global, world: &World, form: &Form) -> Result<Made, Halt>
+/// The answer to an event; a refusal has no line yet.
+fn answer(alloc: Global, world: &World, form: &Form) -> Result<StepAnswer, Halt>
     requires { IsProper form.now }
-    ensures { Judges world.now (conditions_of world.now (event_of (form_of form.now))) (verdict world.now (form_of form.now)) (ok_line (form_of form.now)) result }
+    ensures { Answers world.now (form_of form.now) result }
 {
     let event = read_event(alloc, form)?;
-    judge_event(alloc, world, &event)
+    if is_redundant(alloc, world, form, &event)? {
+        let line = event_line(alloc, "redundant ", &event)?;
+        return Ok(StepAnswer::Redundant(one_line(alloc, line)?));
+    }
+    let made = judge_event(alloc, world, &event)?;
+    let (next, proofs) = made.keep(alloc, form)?;
+    let line = event_line(alloc, "ok ", &event)?;
+    Ok(StepAnswer::Accepted(next, one_line(alloc, line)?, proofs))
 }
 
 /// Judges an event by its parts.
 fn judge_event(alloc: Global, world: &World, event: &EventForm<'_>) -> Result<Made, Halt>
     requires { HasProperParts event.now }
-    ensures { Judges world.now (conditions_of world.now (Ok (seen event.now))) (of_event world.now (seen event.now)) (ok_text (seen event.now)) result }
+    ensures { Judges world.now (conditions_of world.now (Ok (seen event.now))) (of_event world.now (seen event.now)) result }
 {
     match event {
         EventForm::InPackage => Ok(Made {
             world: world.share()?,
-            line: in_package_line(alloc)?,
             proofs: EventProofs::none(alloc),
         }),
-        EventForm::IncludeBook(book) => Ok(Made {
+        EventForm::IncludeBook(_) => Ok(Made {
             world: world.share()?,
-            line: include_book_line(alloc, book)?,
             proofs: EventProofs::none(alloc),
         }),
         EventForm::Defun(name, formals, body) => judge_defun(alloc, world, name, formals, body),
@@ -200,17 +201,15 @@ fn judge_defun(
 ) -> Result<Made, Halt>
     requires formals { AllProper formals.now }
     requires body { IsProper body.now }
-    ensures { Judges world.now [] (of_event world.now (Defun name.now (map form_of formals.now) (form_of body.now))) (codes "ok " ++ ((codes "defun " ++ name.now) ++ codes "\n")) result }
+    ensures { Judges world.now [] (of_event world.now (Defun name.now (map form_of formals.now) (form_of body.now))) result }
 {
     terms::translated_terms_fit();
     world.soundness();
     check_name(alloc, world, name)?;
     let definition = read_definition(alloc, world, name, formals, body)?;
-    let line = defun_line(alloc, name)?;
     let world = with_definition(alloc, world, definition)?;
     Ok(Made {
         world,
-        line,
         proofs: EventProofs::none(alloc),
     })
 }
@@ -240,7 +239,7 @@ fn judge_defthm(
 ) -> Result<Made, Halt>
     requires formula { IsProper formula.now }
     requires proof { IfSome proof (λ p. IsProper p.now) }
-    ensures { Judges world.now (claims (translate (arity world.now.functions) any (form_of formula.now))) (of_event world.now (Defthm name.now (form_of formula.now) (if_given proof.entry (λ p. form_of p.now)))) (codes "ok " ++ ((codes "defthm " ++ name.now) ++ codes "\n")) result }
+    ensures { Judges world.now (claims (translate (arity world.now.functions) any (form_of formula.now))) (of_event world.now (Defthm name.now (form_of formula.now) (if_given proof.entry (λ p. form_of p.now)))) result }
 {
     terms::translated_terms_fit();
     world.soundness();
@@ -263,19 +262,14 @@ fn judge_proof(
     proof: &Proof,
 ) -> Result<Made, Halt>
     requires { is_free world.now name.now ≡ true }
-    ensures { Judges world.now (claim formula.now ∷ []) (of_conclusion world.now name.now formula.now proof.now (concludes world.now proof.now)) (codes "ok " ++ ((codes "defthm " ++ name.now) ++ codes "\n")) result }
+    ensures { Judges world.now (claim formula.now ∷ []) (of_conclusion world.now name.now formula.now proof.now (concludes world.now proof.now)) result }
 {
     match check(alloc, world, proof) {
         Ok(proved) => {
             if proves(proved.sequent(), formula) {
-                let line = defthm_line(alloc, name)?;
                 let world = with_claim(alloc, world, name, formula, &proved)?;
                 let proofs = EventProofs::of_claim(alloc, proved)?;
-                Ok(Made {
-                    world,
-                    line,
-                    proofs,
-                })
+                Ok(Made { world, proofs })
             } else {
                 Err(Halt::Refused(Refusal::ProofWrong {
                     node: root_number(proof),

@@ -1,4 +1,4 @@
-use Rattle.std.proofs.Common.{◌≡◌, ℕ, length, Err, subst}
+use Rattle.std.proofs.Common.{ℕ, length, Err, subst}
 use Rattle.lisp_data.specs.FormView.{form_of}
 use Rattle.terms.specs.Terms.{Tm}
 use Rattle.terms.specs.Worlds.{arity, is_in}

@@ -1,8 +1,7 @@
-use Rattle.std.proofs.Common.{◌≡◌, ℕ, List, true, false, sym, subst}
+use Rattle.std.proofs.Common.{◌≡◌, true, false, sym, subst}
 use Rattle.ports.specs.Streams.{GrowsByFront}
 use Rattle.lisp_reader.specs.Grammar.{book_of, parse}
-use Rattle.book_cli.specs.Report.{Read, report_of, report, accepts_all}
-use Rattle.book_cli.specs.Outcomes.{IsReported}
+use Rattle.book_cli.specs.Report.{Read, report_of, report}
 use Rattle.book_cli.proofs.RunLemmas.{accepted_run, refused_run, whole_book, front_book, front_refused, if_some}
 use Rattle.book_cli.proofs.program.check_book.Goals as goal
 

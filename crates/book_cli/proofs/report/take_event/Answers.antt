@@ -1,4 +1,4 @@
-use Rattle.std.proofs.Common.{◌≡◌, ℕ, ◌∙◌, sym, subst, Bool, true, false, ◌||◌}
+use Rattle.std.proofs.Common.{ℕ, ◌∙◌, sym, subst}
 use Rattle.ports.specs.Streams.{Grows, GrowsByFront}
 use Rattle.ports.proofs.Streams.{Grows-trans}
 use Rattle.lisp_data.specs.Datum.{Datum}

@@ -1,11 +1,9 @@
-use Rattle.std.proofs.Common.{ℕ, ◌≡◌, ◌+◌, ◌∷◌, ◌∙◌, ◌||◌, ◌&&◌, [], Bool, None, Some, true, false, sym, subst, ap, arith}
+use Rattle.std.proofs.Common.{ℕ, ◌≡◌, ◌∷◌, ◌∙◌, ◌||◌, ◌&&◌, [], None, Some, true, sym, subst, ap, arith}
 use Rattle.lisp_data.specs.Datum.{Datum}
 use Rattle.lisp_data.specs.FormView.{form_of}
 use Rattle.ports.proofs.Streams.{Grows-nil}
 use Rattle.terms.specs.Worlds.{World}
 use Rattle.terms.specs.Sound.{Sound}
-use Rattle.book_cli.specs.Steps.{IsNext}
-use Rattle.book_cli.specs.Verdicts.{verdict}
 use Rattle.book_cli.specs.Report.{turn_lines, last_line, end_lines, report_from, report_of, accepts}
 use Rattle.book_cli.proofs.ReportLemmas.{begun_more, begun_end, begun_cut, begun_last_cut, begun_stays, after_turn, report_split, report_goes, report_stops, report_ends, accepts_goes, accepts_not, both_go, world_goes, world_stops, fewer, handled_more, counted_within, on_err}
 use Rattle.book_cli.proofs.report.write_report.Goals as goal

@@ -15,7 +15,6 @@ returns-in_ok-proofs-in-Ok c =
     let yes : proves c.in-Ok.proved.sequent c.args.formula.now ≡ true = ap (λ s. proves s c.args.formula.now) (sym same) ∙ sym c.proves.ensures ∙ c.if-proves.true in
     record {
       verdict_is = concluded c.args.world.now c.in_ok-world-in-Ok.world c.args.name.now c.args.formula.now c.args.proof.now c.in-Ok.proved.sequent c.in-Ok.ensures.ok.concludes yes c.in_ok-world-in-Ok.ensures;
-      line_is = c.in_ok-line-in-Ok.ensures;
       before = one_proved c.args.world.now c.args.formula.now c.in-Ok.proved c.in_ok-proofs-in-Ok.proofs.before c.in_ok-proofs-in-Ok.ensures.before c.in-Ok.ensures.ok.world_is
           (claim_is c.in-Ok.proved.sequent c.args.formula.now yes);
       after = c.in_ok-proofs-in-Ok.ensures.after;
