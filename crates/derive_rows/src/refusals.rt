@@ -6,7 +6,7 @@ use std::test::Fail;
 fn refused_books(rt: HostRuntime) -> Result<(), Fail> {
     let rows: [(&[u8], &[u8]); 3] = [
         (
-            b"(defun id (x) x)\n(defun id (x) x)",
+            b"(defun id (x) x)\n(defun id (x) (cons x x))",
             b"ok defun ID\nrefused 2 16 NameTaken ID at 17\naccepted 1 events 0 theorems\n",
         ),
         (

@@ -15,7 +15,22 @@ pub fn joined(rt: &HostRuntime, parts: &[&[u8]]) -> Result<Vec<u8>, Fail> {
 
 /// Such a book has this report, and ends so.
 pub fn reported(rt: &HostRuntime, book: &[u8], report: &[u8], wanted: Status) -> Result<(), Fail> {
-    let (status, held) = outcome(rt, &[b"check"], book)?;
+    reported_by(rt, &[b"check"], book, report, wanted)
+}
+
+/// Such a book has this report where the run goes on behind a refused event.
+pub fn continued(rt: &HostRuntime, book: &[u8], report: &[u8], wanted: Status) -> Result<(), Fail> {
+    reported_by(rt, &[b"check", b"--continue"], book, report, wanted)
+}
+
+fn reported_by(
+    rt: &HostRuntime,
+    words: &[&[u8]],
+    book: &[u8],
+    report: &[u8],
+    wanted: Status,
+) -> Result<(), Fail> {
+    let (status, held) = outcome(rt, words, book)?;
     if held.as_slice() == report && status == wanted {
         return Ok(());
     }

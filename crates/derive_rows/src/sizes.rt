@@ -65,7 +65,7 @@ fn nested(
 }
 
 /// So many doublings of X, each of what the one before it gave: 2 to the power of one more than their number, less 1, nodes.
-fn doublings(rt: &HostRuntime, count: usize) -> Result<Vec<u8>, Fail> {
+pub fn doublings(rt: &HostRuntime, count: usize) -> Result<Vec<u8>, Fail> {
     repeated(rt, b"(let* (", b"(x (cons x x))", count, b") x)")
 }
 

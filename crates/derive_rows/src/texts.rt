@@ -415,7 +415,7 @@ fn behind_events(rt: HostRuntime) -> Result<(), Fail> {
         ),
         (b" \"a\" )", b"11 NotAnEvent at 16"),
         (b"(defun f (x) 1/2)", b"5 BadNumber at 28"),
-        (b"(defun f (x) x) )", b"16 NameTaken F at 15"),
+        (b"(defun f (y) y) )", b"16 NameTaken F at 15"),
     ];
     for (tail, why) in rows {
         let mut book = b"(defun f (x) x)".as_slice().to_vec(rt.alloc())?;
@@ -425,6 +425,12 @@ fn behind_events(rt: HostRuntime) -> Result<(), Fail> {
         report.extend_from_slice(b"\naccepted 1 events 0 theorems\n")?;
         reported(&rt, book.as_slice(), report.as_slice(), Status::Refused)?;
     }
+    reported(
+        &rt,
+        b"(defun f (x) x)(defun f (x) x) )",
+        b"ok defun F\nredundant defun F\nrefused 3 3 StrayClose at 31\naccepted 2 events 0 theorems\n",
+        Status::Refused,
+    )?;
     reported(
         &rt,
         b"(defun f (x) x)\n(defun g (x) (f x))  )",
