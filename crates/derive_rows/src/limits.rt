@@ -36,14 +36,34 @@ fn behind_the_last(rt: &HostRuntime, rows: &[(&[u8], &[u8])], status: Status) ->
 
 /// What begins one form more is too much, also where it can't be read.
 #[test]
-fn one_form_more(rt: HostRuntime) -> Result<(), Fail> {
+fn one_atom_more(rt: HostRuntime) -> Result<(), Fail> {
     behind_the_last(
         &rt,
         &[
             (b" x", b"refused 10001 8 BookTooLong at 158891\n"),
             (b"1/2", b"refused 10001 8 BookTooLong at 158890\n"),
+        ],
+        Status::Refused,
+    )
+}
+
+#[test]
+fn one_bad_atom_more(rt: HostRuntime) -> Result<(), Fail> {
+    behind_the_last(
+        &rt,
+        &[
             (b".", b"refused 10001 8 BookTooLong at 158890\n"),
             (b"#", b"refused 10001 8 BookTooLong at 158890\n"),
+        ],
+        Status::Refused,
+    )
+}
+
+#[test]
+fn one_open_form_more(rt: HostRuntime) -> Result<(), Fail> {
+    behind_the_last(
+        &rt,
+        &[
             (b"\"", b"refused 10001 8 BookTooLong at 158890\n"),
             (b"')", b"refused 10001 8 BookTooLong at 158890\n"),
         ],
@@ -51,6 +71,7 @@ fn one_form_more(rt: HostRuntime) -> Result<(), Fail> {
     )
 }
 
+/// What begins no form.
 #[test]
 fn no_form_more(rt: HostRuntime) -> Result<(), Fail> {
     behind_the_last(
@@ -58,8 +79,16 @@ fn no_form_more(rt: HostRuntime) -> Result<(), Fail> {
         &[
             (b")", b"refused 10001 3 StrayClose at 158890\n"),
             (b"|", b"refused 10001 1 BadByte at 158890\n"),
-            (b"#|", b"refused 10001 10 UnclosedText at 158892\n"),
         ],
+        Status::Refused,
+    )
+}
+
+#[test]
+fn comments_behind_the_last_form(rt: HostRuntime) -> Result<(), Fail> {
+    behind_the_last(
+        &rt,
+        &[(b"#|", b"refused 10001 10 UnclosedText at 158892\n")],
         Status::Refused,
     )?;
     behind_the_last(&rt, &[(b" ;)", b"")], Status::Accepted)
