@@ -8,6 +8,7 @@ pub mod Models
 pub mod Extend
 pub mod Meaning
 pub mod Same
+pub mod Lists
 pub mod Basics
 pub mod Totality
 pub mod Growth

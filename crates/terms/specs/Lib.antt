@@ -8,6 +8,7 @@ pub mod Paths
 pub mod Definitions
 pub mod Evaluation
 pub mod Worlds
+pub mod Joins
 pub mod Measures
 pub mod BuiltIn
 pub mod InitialTheorems
