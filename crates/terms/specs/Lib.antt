@@ -13,5 +13,7 @@ pub mod Measures
 pub mod BuiltIn
 pub mod InitialTheorems
 pub mod Formed
+pub mod Dependence
+pub mod Later
 pub mod Sound
 pub mod Laws
