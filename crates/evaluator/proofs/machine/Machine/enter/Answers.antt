@@ -1,4 +1,4 @@
-use Rattle.std.proofs.Common.{◌≡◌, map, drop, length, Some, refl, ap, sym, ◌∙◌, arith}
+use Rattle.std.proofs.Common.{◌≡◌, map, drop, length, Some, refl, ap, arith}
 use Rattle.evaluator.specs.Counted.{ManyCalls, Stuck, entered, body_run}
 use Rattle.evaluator.specs.Machines.{vals, waiting, act_of}
 use Rattle.evaluator.proofs.Steps.{stops_on}

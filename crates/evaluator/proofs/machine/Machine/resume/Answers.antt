@@ -1,4 +1,4 @@
-use Rattle.std.proofs.Common.{◌≡◌, ◌++◌, cond, map, take, length, [], ◌∷◌, refl, subst, ap, sym, ◌∙◌, arith, length-append}
+use Rattle.std.proofs.Common.{◌≡◌, ◌++◌, cond, map, take, length, [], ◌∷◌, refl, subst, ap, sym, ◌∙◌, arith}
 use Rattle.std.proofs.lemmas.List.{length-map, map-append, take-map, length-take-le, take-take}
 use Rattle.lisp_data.specs.ValueView.{val_of}
 use Rattle.terms.specs.Primitives.{is_nil}
