@@ -9,6 +9,7 @@ use Rattle.std.specs.declared.rc.Rc.{Rc}
 use Rattle.lisp_data.specs.FormView.{form_of, items_of as held_by, IsProper, end_of}
 use Rattle.lisp_data.specs.declared.form.Forms.{Forms}
 use Rattle.lisp_data.specs.declared.form.Form.{Form, List as Listed}
+use Rattle.lisp_data.specs.declared.code.Code.TheVariants.{RepeatedFormal}
 use Rattle.lisp_data.specs.declared.detail.Detail.TheVariants as detail
 use Rattle.lisp_data.proofs.Chains.{form_of-int, form_of-sym, form_of-text}
 use Rattle.lisp_data.proofs.Proper.{proper-at, proper-list, form_of-listed}
@@ -226,22 +227,22 @@ abbrev from : List Binding → ℕ → Outcome (Unit {0})
 from bs i = distinct_after (backwards (take i bs) []) (names_of (drop i bs))
 
 from-step : (bs : List Binding) (i : ℕ) (b : Binding) → i < length bs → b ≡ get_or bs i b →
-    from bs i ≡ (if is_in (names_of (take i bs)) b.name then Err (20, detail.Name b.name) else from bs (i + 1))
+    from bs i ≡ (if is_in (names_of (take i bs)) b.name then Err (RepeatedFormal, detail.Name b.name) else from bs (i + 1))
 from-step bs i b h e =
     let before : backwards (take (i + 1) bs) [] ≡ b.name ∷ backwards (take i bs) [] =
     ap (λ cs. backwards cs []) (take-more bs i b h) ∙ backwards-push (take i bs) (get_or bs i b) [] ∙ ap (λ (b : Binding). b.name ∷ backwards (take i bs) []) (sym e) in
     let test : is_in (backwards (take i bs) []) b.name ≡ is_in (names_of (take i bs)) b.name = in-backwards (take i bs) [] b.name ∙ or-none (is_in (names_of (take i bs)) b.name) in
     ap (distinct_after (backwards (take i bs) [])) (names-drop bs i b h e)
-    ∙ ap (λ t. if t then Err (20, detail.Name b.name) else distinct_after (b.name ∷ backwards (take i bs) []) (names_of (drop (i + 1) bs))) test
-    ∙ ap (λ ns. if is_in (names_of (take i bs)) b.name then Err (20, detail.Name b.name) else distinct_after ns (names_of (drop (i + 1) bs))) (sym before)
+    ∙ ap (λ t. if t then Err (RepeatedFormal, detail.Name b.name) else distinct_after (b.name ∷ backwards (take i bs) []) (names_of (drop (i + 1) bs))) test
+    ∙ ap (λ ns. if is_in (names_of (take i bs)) b.name then Err (RepeatedFormal, detail.Name b.name) else distinct_after ns (names_of (drop (i + 1) bs))) (sym before)
 
 pub repeat-found : (bs : List Binding) (i : ℕ) (b : Binding) (all : Outcome (Unit {0})) → i < length bs → b ≡ get_or bs i b → is_in (names_of (take i bs)) b.name ≡ true →
-    from bs i ≡ all → all ≡ Err (20, detail.Name b.name)
-repeat-found bs i b all h e t p = sym p ∙ from-step bs i b h e ∙ ap (λ t. if t then Err (20, detail.Name b.name) else from bs (i + 1)) t
+    from bs i ≡ all → all ≡ Err (RepeatedFormal, detail.Name b.name)
+repeat-found bs i b all h e t p = sym p ∙ from-step bs i b h e ∙ ap (λ t. if t then Err (RepeatedFormal, detail.Name b.name) else from bs (i + 1)) t
 
 pub repeat-none : (bs : List Binding) (i : ℕ) (b : Binding) (all : Outcome (Unit {0})) → i < length bs → b ≡ get_or bs i b → is_in (names_of (take i bs)) b.name ≡ false →
     from bs i ≡ all → from bs (i + 1) ≡ all
-repeat-none bs i b all h e t p = ap (λ t. if t then Err (20, detail.Name b.name) else from bs (i + 1)) (sym t) ∙ sym (from-step bs i b h e) ∙ p
+repeat-none bs i b all h e t p = ap (λ t. if t then Err (RepeatedFormal, detail.Name b.name) else from bs (i + 1)) (sym t) ∙ sym (from-step bs i b h e) ∙ p
 
 pub repeat-end : (bs : List Binding) (i : ℕ) (all : Outcome (Unit {0})) → length bs ≤ i → from bs i ≡ all → all ≡ Ok tt
 repeat-end bs i all h p = sym p ∙ ap (λ cs. distinct_after (backwards (take i bs) []) (names_of cs)) (drop_all i bs h)

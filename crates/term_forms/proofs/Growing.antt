@@ -2,6 +2,7 @@
 use Rattle.std.proofs.Common.{◌≡◌, ℕ, ◌≤◌, Bool, true, false, Ok, Err, ◌&&◌, nat_le, if◌then◌else◌, List, [], ◌∷◌, refl, ap, ◌∙◌, arith}
 use Rattle.std.proofs.lemmas.Bool.Decides.{nat_tests}
 use Rattle.lisp_data.specs.Values.{Name}
+use Rattle.lisp_data.specs.declared.code.Code.{Code}
 use Rattle.lisp_data.specs.declared.detail.Detail.{Detail}
 use Rattle.term_forms.specs.declared.translation.TermError.{TermError}
 use Rattle.term_forms.specs.declared.translation.TermError.TheVariants.{Refused, Memory}
@@ -16,7 +17,7 @@ pub record IsWithin (t u : Tm) : Type 0 where
   pub few : nodes t ≤ nodes u
   pub low : height t ≤ height u
 
-by_choice : (b : Bool) (t : Tm) (e : ℕ × Detail) → (if b then Ok t else too_large {A = Tm}) ≡ Err e → (b ≡ false) × (too_large {A = Tm} ≡ Err e)
+by_choice : (b : Bool) (t : Tm) (e : Code × Detail) → (if b then Ok t else too_large {A = Tm}) ≡ Err e → (b ≡ false) × (too_large {A = Tm} ≡ Err e)
 by_choice true t e h = cc
 by_choice false t e h = (refl, h)
 
@@ -31,7 +32,7 @@ tests-grow : (a b c d : ℕ) → a ≤ c → b ≤ d → (nat_le a 100000 && nat
 tests-grow a b c d p q h = grind (arith, nat_tests)
 
 -- a refusal of a term is one of each larger one
-pub larger-refused : (t u : Tm) (e : ℕ × Detail) → IsWithin t u → limited t ≡ Err e → limited u ≡ Err e
+pub larger-refused : (t u : Tm) (e : Code × Detail) → IsWithin t u → limited t ≡ Err e → limited u ≡ Err e
 larger-refused t u e w h =
     let small = by_choice (is_limited t) t e h in
     let large : is_limited u ≡ false = tests-grow (nodes t) (height t) (nodes u) (height u) w.few w.low small.0 in
@@ -62,11 +63,11 @@ module _ (s : Name → Tm) where
           ap tms is ∙ (λ i. More (same i) (rest i))
 
   -- a part that is too large makes the call too large
-  pub call-refused : (f : Name) (ts : List Tm) (e : ℕ × Detail) → each replaced ts ≡ Err e → limited (Call f (substitute_all s (tms ts))) ≡ Err e
+  pub call-refused : (f : Name) (ts : List Tm) (e : Code × Detail) → each replaced ts ≡ Err e → limited (Call f (substitute_all s (tms ts))) ≡ Err e
   call-refused f [] e h = cc
   call-refused f (t ∷ ts) e h = by_outcomes (replaced t) (each replaced ts) refl (call-refused f ts) h
     where
-      by_outcomes : (o : Outcome Tm) (p : Outcome (List Tm)) → replaced t ≡ o → ((y : ℕ × Detail) → p ≡ Err y → limited (Call f (substitute_all s (tms ts))) ≡ Err y) → and_rest o p ≡ Err e → limited (Call f (substitute_all s (tms (t ∷ ts)))) ≡ Err e
+      by_outcomes : (o : Outcome Tm) (p : Outcome (List Tm)) → replaced t ≡ o → ((y : Code × Detail) → p ≡ Err y → limited (Call f (substitute_all s (tms ts))) ≡ Err y) → and_rest o p ≡ Err e → limited (Call f (substitute_all s (tms (t ∷ ts)))) ≡ Err e
       by_outcomes (Err x) p a ih h = larger-refused (substitute s t) (Call f (substitute_all s (tms (t ∷ ts)))) e (first-within f (substitute s t) (substitute_all s (tms ts))) (a ∙ (let k : Err x ≡ Err e = cc in k))
       by_outcomes (Ok x) (Ok xs) a ih h = cc
       by_outcomes (Ok x) (Err y) a ih h =

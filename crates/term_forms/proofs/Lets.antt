@@ -6,6 +6,7 @@ use Rattle.std.proofs.lemmas.List.{drop_all}
 use Rattle.lisp_data.specs.Values.{Name}
 use Rattle.lisp_data.specs.Datum.{Datum, nil_form, chain, depth}
 use Rattle.lisp_data.specs.FormView.{form_of, IsProper}
+use Rattle.lisp_data.specs.declared.code.Code.{Code}
 use Rattle.lisp_data.specs.declared.detail.Detail.{Detail}
 use Rattle.term_forms.specs.declared.translation.TermError.{TermError}
 use Rattle.term_forms.specs.declared.translation.TermError.TheVariants.{Refused, Memory}
@@ -112,7 +113,7 @@ wrapped-push : (ps : Pairs) (p : Name × Tm) (o : Outcome Tm) → wrapped (ps ++
 wrapped-push [] p o = refl
 wrapped-push (q ∷ ps) p o = ap (map_outcome (replaced_by q)) (wrapped-push ps p o)
 
-wrapped-refused : (ps : Pairs) (e : ℕ × Detail) → wrapped ps (Err e) ≡ Err e
+wrapped-refused : (ps : Pairs) (e : Code × Detail) → wrapped ps (Err e) ≡ Err e
 wrapped-refused [] e = refl
 wrapped-refused (p ∷ ps) e = ap (map_outcome (replaced_by p)) (wrapped-refused ps e)
 

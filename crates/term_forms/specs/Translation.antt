@@ -4,6 +4,8 @@ use Rattle.std.specs.Prelude.{ℕ, suc, max, Bool, false, ◌&&◌, ◌||◌, no
 use Rattle.std.specs.List.{zip}
 use Rattle.lisp_data.specs.Values.{Name, Val, Int, Sym, path, pairs}
 use Rattle.lisp_data.specs.Datum.{Datum, IntForm, SymForm, TextForm, PairForm}
+use Rattle.lisp_data.specs.declared.code.Code.{Code}
+use Rattle.lisp_data.specs.declared.code.Code.TheVariants.{BadForm, TermTooLarge, UnknownName, WrongArity, UnboundVariable, RepeatedFormal}
 use Rattle.lisp_data.specs.declared.detail.Detail.{Detail}
 use Rattle.lisp_data.specs.declared.detail.Detail.TheVariants as detail
 use Rattle.lisp_reader.specs.FormValue.{has_text, value}
@@ -23,7 +25,7 @@ Scope = Name → Bool
 
 -- something, or a refusal's code and detail
 abbrev pub Outcome : Type 0 → Type 0
-Outcome A = Result A (ℕ × Detail)
+Outcome A = Result A (Code × Detail)
 
 abbrev pub and_then : {A B : Type 0} → Outcome A → (A → Outcome B) → Outcome B
 and_then (Ok x) f = f x
@@ -35,10 +37,10 @@ map_outcome f (Err e) = Err e
 
 -- the form, or a part of it, has another shape
 abbrev pub bad_form : {A : Type 0} → Outcome A
-bad_form = Err (12, detail.Word (codes "term"))
+bad_form = Err (BadForm, detail.Word (codes "term"))
 
 abbrev pub too_large : {A : Type 0} → Outcome A
-too_large = Err (15, detail.Absent)
+too_large = Err (TermTooLarge, detail.Absent)
 
 -- calls are counted on the longest way down; one without arguments counts as well
 abbrev mutual
@@ -64,7 +66,7 @@ atom scope s =
     if is_constant_name s then Ok (Quote (Sym s))
     else if not (is_variable_name s) then bad_form
     else if scope s then Ok (Var s)
-    else Err (19, detail.Name s)
+    else Err (UnboundVariable, detail.Name s)
 
 -- the limits of a value
 abbrev pub is_small : Val → Bool
@@ -89,8 +91,8 @@ items (PairForm a d) = suc (items d)
 
 -- a call of a name with so many parts
 abbrev pub call_head : Name → Option ℕ → ℕ → Outcome (Unit {0})
-call_head f None n = Err (17, detail.Name f)
-call_head f (Some k) n = if nat_eq k n then Ok tt else Err (18, detail.Name f)
+call_head f None n = Err (UnknownName, detail.Name f)
+call_head f (Some k) n = if nat_eq k n then Ok tt else Err (WrongArity, detail.Name f)
 
 abbrev pub parts_if : Bool → Outcome (Unit {0})
 parts_if right = if right then Ok tt else bad_form
@@ -145,7 +147,7 @@ bound_names (PairForm b d) = and_then (bound_name b) (λ x. map_outcome (λ xs. 
 -- the first variable that stands a second time is refused
 abbrev pub distinct_after : List Name → List Name → Outcome (Unit {0})
 distinct_after before [] = Ok tt
-distinct_after before (x ∷ xs) = if is_in before x then Err (20, detail.Name x) else distinct_after (x ∷ before) xs
+distinct_after before (x ∷ xs) = if is_in before x then Err (RepeatedFormal, detail.Name x) else distinct_after (x ∷ before) xs
 
 abbrev pub with_names : List Name → Scope → Scope
 with_names xs scope x = is_in xs x || scope x

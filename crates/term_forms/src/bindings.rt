@@ -21,7 +21,7 @@ use crate::naming::is_variable_name;
 use crate::scope::Scope;
 use crate::shapes::{list_items, two_items};
 use crate::translation::{TermError, bad_form};
-use lisp_data::{Detail, Form, Memory, Seq, Symbol, Symbols};
+use lisp_data::{Code, Detail, Form, Memory, Seq, Symbol, Symbols};
 use std::alloc::Global;
 use terms::{Node, Term};
 
@@ -194,7 +194,7 @@ pub(crate) fn check_distinct(bindings: &[Binding<'_>]) -> Result<(), TermError>
         let name = &bindings[i].name;
         if binds(&bindings[..i], name) {
             return Err(TermError::Refused {
-                code: 20,
+                code: Code::RepeatedFormal,
                 detail: Detail::Name(name.share()?),
             });
         }

@@ -7,7 +7,7 @@ ghost use Rattle.term_forms.specs.Translation.{limited, is_limited};
 ghost use Rattle.term_forms.specs.TranslationView.{SaysOutcome};
 
 use crate::translation::TermError;
-use lisp_data::{Detail, Memory, Symbol, Value};
+use lisp_data::{Code, Detail, Memory, Symbol, Value};
 use std::alloc::Global;
 use std::marker::Model;
 use terms::{Term, Terms};
@@ -87,7 +87,7 @@ impl Counted {
         }
         if nodes > MAX_NODES || height >= MAX_HEIGHT {
             return Err(TermError::Refused {
-                code: 15,
+                code: Code::TermTooLarge,
                 detail: Detail::Absent,
             });
         }

@@ -1,3 +1,5 @@
+//! Which symbols are names (docs/BOOKS.md, "Names").
+
 ghost use Rattle.std.specs.Prelude.{◌≡◌};
 ghost use Rattle.term_forms.specs.Names as spec;
 

@@ -1,3 +1,5 @@
+//! Tests of what translates and prints terms.
+
 use super::*;
 use lisp_data::{Symbol, Text, Value};
 use lisp_reader::FormReader;
@@ -52,7 +54,7 @@ impl Signatures for TwoArguments {
     }
 }
 
-/// The text of the term of the first form of these bytes, or the code of its refusal.
+/// The text of the term of the first form of these bytes, or the word of its refusal.
 fn translated(alloc: Global, bytes: &[u8]) -> Result<Text, Fail> {
     let mut out = Text::new(alloc);
     let mut reader = FormReader::new(bytes, false);
@@ -60,7 +62,7 @@ fn translated(alloc: Global, bytes: &[u8]) -> Result<Text, Fail> {
         let answer = translate(alloc, &located.form, &TwoArguments, &Scope::Any);
         match &answer {
             Ok(term) => print_term(term, &mut out)?,
-            Err(TermError::Refused { code, detail: _ }) => out.push(*code)?,
+            Err(TermError::Refused { code, detail: _ }) => out.extend(code.word().as_bytes())?,
             Err(TermError::Memory) => {}
         }
     }
@@ -89,9 +91,9 @@ fn translates_forms(rt: HostRuntime) -> Result<(), Fail> {
             "(<= (cadr a) (1- b))",
             "(NOT (< (BINARY-+ '-1 B) (CAR (CDR A))))",
         ),
-        ("(f (quote \"s\"))", "\x12"),
-        ("(f (quote \"s\") a)", "\x0c"),
-        ("(let ((a 1) (a 2)) b)", "\x14"),
+        ("(f (quote \"s\"))", "WrongArity"),
+        ("(f (quote \"s\") a)", "BadForm"),
+        ("(let ((a 1) (a 2)) b)", "RepeatedFormal"),
     ] {
         let answer = translated(alloc, form.as_bytes())?;
         assert_eq!(rt; answer.as_slice(), term.as_bytes(), "{form}");

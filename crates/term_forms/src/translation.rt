@@ -20,7 +20,7 @@ use crate::macros::Macro;
 use crate::naming::{is_function_name, is_variable_name};
 use crate::scope::Scope;
 use crate::shapes::{is_t, two_items};
-use lisp_data::{Detail, Form, Memory, Seq, Symbol, Text, Value, ValueError};
+use lisp_data::{Code, Detail, Form, Memory, Seq, Symbol, Text, Value, ValueError};
 use lisp_reader::value_of;
 use std::alloc::Global;
 use terms::{Signatures, Term};
@@ -28,8 +28,8 @@ use terms::{Signatures, Term};
 /// Why a form is no term.
 #[derive(Drop)]
 pub enum TermError {
-    /// A refusal by its code: 12, 15, or 17 to 20.
-    Refused { code: u8, detail: Detail },
+    /// The form, or a part of it, is refused (docs/BOOKS.md, "Terms").
+    Refused { code: Code, detail: Detail },
     Memory,
 }
 
@@ -61,7 +61,7 @@ pub(crate) fn bad_form<T>(alloc: Global) -> Result<T, TermError>
 {
     let word = Text::from_slice(alloc, b"term")?;
     Err(TermError::Refused {
-        code: 12,
+        code: Code::BadForm,
         detail: Detail::Word(word),
     })
 }
@@ -79,7 +79,7 @@ fn atom(alloc: Global, symbol: &Symbol, scope: &Variables<'_>) -> Result<Counted
         Ok(variable)
     } else {
         Err(TermError::Refused {
-            code: 19,
+            code: Code::UnboundVariable,
             detail: Detail::Name(symbol.share()?),
         })
     }
@@ -97,7 +97,7 @@ fn quoted(alloc: Global, form: &Form) -> Result<Counted, TermError>
         Err(error) => match error {
             ValueError::NotAValue => bad_form(alloc),
             ValueError::TooLarge => Err(TermError::Refused {
-                code: 15,
+                code: Code::TermTooLarge,
                 detail: Detail::Absent,
             }),
             ValueError::Memory => Err(TermError::Memory),
@@ -153,7 +153,7 @@ fn check_call<S: Signatures>(name: &Symbol, count: usize, sigs: &S) -> Result<()
 {
     match sigs.arity(name) {
         None => Err(TermError::Refused {
-            code: 17,
+            code: Code::UnknownName,
             detail: Detail::Name(name.share()?),
         }),
         Some(arity) => {
@@ -161,7 +161,7 @@ fn check_call<S: Signatures>(name: &Symbol, count: usize, sigs: &S) -> Result<()
                 Ok(())
             } else {
                 Err(TermError::Refused {
-                    code: 18,
+                    code: Code::WrongArity,
                     detail: Detail::Name(name.share()?),
                 })
             }

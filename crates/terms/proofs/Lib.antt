@@ -8,11 +8,14 @@ pub mod Models
 pub mod Extend
 pub mod Meaning
 pub mod Same
+pub mod Lists
 pub mod Basics
 pub mod Totality
+pub mod LaterSteps
 pub mod Growth
 pub mod MoreEntries
 pub mod BuiltInTests
 pub mod Standard
 pub mod InitialTheorems
 pub mod Initial
+pub mod Later

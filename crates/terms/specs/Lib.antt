@@ -8,9 +8,12 @@ pub mod Paths
 pub mod Definitions
 pub mod Evaluation
 pub mod Worlds
+pub mod Joins
 pub mod Measures
 pub mod BuiltIn
 pub mod InitialTheorems
 pub mod Formed
+pub mod Dependence
+pub mod Later
 pub mod Sound
 pub mod Laws

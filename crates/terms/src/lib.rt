@@ -15,8 +15,8 @@ mod tests;
 pub use definition::Definition;
 pub use entries::{FactName, FunPair, FunPairs, Iso, IsoUse, IsoUses, Link, Specification};
 pub use laws::{
-    definitions_stay_total, flat_definitions_stay_total, later_definitions, substitution,
-    values_stay, worlds_grow,
+    definitions_stay_total, flat_definitions_stay_total, later_definitions, later_worlds_keep,
+    sound_worlds_keep_initial, substitution, values_stay, worlds_grow,
 };
 pub use path::{Path, at_path, put_at};
 pub use sequent::Sequent;

@@ -1,3 +1,5 @@
+//! Tests of the calls on terms that take memory.
+
 use super::*;
 use lisp_data::{Symbol, Value};
 use std::alloc::Global;
