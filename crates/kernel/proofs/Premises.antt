@@ -3,7 +3,7 @@ use Rattle.std.proofs.Common.{◌≡◌, ◌+◌, ◌<◌, ◌≤◌, ℕ, zero,
 use native.Mathlib.Numerals.{unary_clauses}
 use Rattle.std.specs.Option.{option_or}
 use Rattle.std.proofs.lemmas.List.{append-nil, append_assoc, drop_all, take_all}
-use Rattle.terms.proofs.Folds.{take-more}
+use Rattle.std.proofs.lemmas.List.{take_more}
 use Rattle.terms.specs.Evaluation.{then_with}
 use Rattle.terms.specs.Worlds.{World}
 use Rattle.terms.specs.declared.sequent.Sequent.{Sequent}
@@ -97,7 +97,7 @@ concluded-start W cs = refl
 pub concluded-next : (W : World) (cs : List Conclusion) (i : ℕ) (d : Conclusion) → i < length cs → Concluded W cs i → (get_or cs i d).world ≡ W → concludes (get_or cs i d).world (get_or cs i d).proof ≡ Some (get_or cs i d).sequent → Concluded W cs (i + 1)
 unfolding Concluded
 concluded-next W cs i d h e w c =
-    subst (λ xs. all_concluded W (trees (proofs_of xs)) ≡ Some (sequents_of xs)) (sym (take-more cs i d h))
+    subst (λ xs. all_concluded W (trees (proofs_of xs)) ≡ Some (sequents_of xs)) (sym (take_more cs i d h))
     (all_concluded-snoc W (take i cs) (get_or cs i d) e (subst (λ V. concludes V (get_or cs i d).proof ≡ Some (get_or cs i d).sequent) w c))
 
 pub concluded-end : (W : World) (cs : List Conclusion) (i : ℕ) → length cs ≤ i → Concluded W cs i → all_concluded W (trees (proofs_of cs)) ≡ Some (sequents_of cs)
@@ -113,7 +113,7 @@ pub ruleset concluded = (AllIn-at, concluded-start, concluded-next, concluded-en
 
 -- the proofs of premises
 pub proofs-next : (cs : List Conclusion) (i : ℕ) (d : Conclusion) → i < length cs → proofs_of (take (i + 1) cs) ≡ (proofs_of (take i cs) ++ (get_or cs i d).proof ∷ [])
-proofs-next cs i d h = ap proofs_of (take-more cs i d h) ∙ snoc (take i cs) (get_or cs i d)
+proofs-next cs i d h = ap proofs_of (take_more cs i d h) ∙ snoc (take i cs) (get_or cs i d)
   where
     snoc : (xs : List Conclusion) (c : Conclusion) → proofs_of (xs ++ c ∷ []) ≡ (proofs_of xs ++ c.proof ∷ [])
     snoc [] c = refl
