@@ -7,10 +7,10 @@ use Rattle.lisp_data.specs.declared.detail.Detail.{Detail}
 use Rattle.lisp_data.specs.declared.detail.Detail.TheVariants.{Absent}
 use Rattle.terms.specs.Terms.{Tm, same_tm}
 use Rattle.terms.specs.Measures.{mentions}
-use Rattle.terms.specs.Translation.{Outcome, and_then}
-use Rattle.terms.specs.TranslationView.{SaysOutcome}
-use Rattle.terms.specs.declared.translation.TermError.{TermError}
-use Rattle.terms.specs.declared.translation.TermError.TheVariants as term
+use Rattle.term_forms.specs.Translation.{Outcome, and_then}
+use Rattle.term_forms.specs.TranslationView.{SaysOutcome}
+use Rattle.term_forms.specs.declared.translation.TermError.{TermError}
+use Rattle.term_forms.specs.declared.translation.TermError.TheVariants as term
 use Rattle.event_forms.specs.Refused.{not_an_event}
 use Rattle.terms.specs.Worlds.{World, Holds}
 use Rattle.terms.specs.declared.sequent.Sequent.{Sequent}

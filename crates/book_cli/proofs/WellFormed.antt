@@ -13,13 +13,13 @@ use Rattle.terms.specs.Worlds.{World, Functions, IsIn, is_in, Distinct, arity, a
 use Rattle.terms.specs.Measures.{mentions, mentions_in, is_nested, is_nested_in}
 use Rattle.terms.specs.Formed.{with_def, IsWellFormed}
 use Rattle.terms.specs.Sound.{Sound}
-use Rattle.terms.specs.Translation.{Takes, Outcome, and_then, map_outcome, distinct_after, translate}
-use Rattle.terms.specs.TranslationLaws.{HasWords, TranslatedTermsFit}
+use Rattle.term_forms.specs.Translation.{Takes, Outcome, and_then, map_outcome, distinct_after, translate}
+use Rattle.term_forms.specs.TranslationLaws.{HasWords, TranslatedTermsFit}
 use Rattle.terms.specs.declared.definition.Definition.{Definition}
 use Rattle.terms.proofs.Extend.{over_map, arity_later}
 use Rattle.terms.proofs.Meaning.{arity_defined}
 use Rattle.terms.proofs.Names.{same_name, name_self}
-use Rattle.terms.specs.Names.{is_function_name}
+use Rattle.term_forms.specs.Names.{is_function_name}
 use Rattle.worlds.specs.Names.{is_free}
 use Rattle.worlds.proofs.Free.{free}
 use Rattle.event_forms.specs.ProofTexts.{any}

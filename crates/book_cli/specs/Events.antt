@@ -6,8 +6,8 @@ use Rattle.lisp_data.specs.declared.detail.Detail.TheVariants as detail
 use Rattle.terms.specs.Terms.{Tm, same_tm}
 use Rattle.terms.specs.Worlds.{World, arity, is_in}
 use Rattle.terms.specs.Measures.{mentions}
-use Rattle.terms.specs.Names.{is_variable_name, is_function_name}
-use Rattle.terms.specs.Translation.{Takes, Outcome, and_then, map_outcome, and_rest, distinct_after, translate}
+use Rattle.term_forms.specs.Names.{is_variable_name, is_function_name}
+use Rattle.term_forms.specs.Translation.{Takes, Outcome, and_then, map_outcome, and_rest, distinct_after, translate}
 use Rattle.terms.specs.declared.definition.Definition.{Definition}
 use Rattle.terms.specs.declared.sequent.Sequent.{Sequent}
 use Rattle.worlds.specs.Names.{is_free}

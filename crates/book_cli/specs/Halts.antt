@@ -3,9 +3,9 @@ use Rattle.std.specs.Prelude.{◌≡◌, ℕ, List, [], Result, Ok, Err}
 use Rattle.lisp_data.specs.Datum.{Datum}
 use Rattle.lisp_data.specs.declared.detail.Detail.{Detail}
 use Rattle.terms.specs.Worlds.{World}
-use Rattle.terms.specs.Translation.{Outcome}
-use Rattle.terms.specs.declared.translation.TermError.{TermError}
-use Rattle.terms.specs.declared.translation.TermError.TheVariants as term
+use Rattle.term_forms.specs.Translation.{Outcome}
+use Rattle.term_forms.specs.declared.translation.TermError.{TermError}
+use Rattle.term_forms.specs.declared.translation.TermError.TheVariants as term
 use Rattle.event_forms.specs.declared.errors.EventError.{EventError}
 use Rattle.event_forms.specs.declared.errors.EventError.TheVariants as event
 use Rattle.book_cli.specs.Verdicts as verdict

@@ -7,7 +7,7 @@ use Rattle.lisp_reader.specs.Grammar.{book_of}
 use Rattle.terms.specs.Worlds.{World}
 use Rattle.terms.specs.Sound.{initial_world}
 use Rattle.event_forms.specs.Shapes.{Event, InPackage, IncludeBook, Defun, Defthm, event_of}
-use Rattle.terms.specs.Translation.{Outcome}
+use Rattle.term_forms.specs.Translation.{Outcome}
 use Rattle.worlds.specs.Entries.{further_theorems}
 use Rattle.book_cli.specs.declared.progress.Progress.{Progress}
 use Rattle.book_cli.specs.declared.refusal.Refusal.{Refusal}

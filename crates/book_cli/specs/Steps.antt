@@ -3,7 +3,7 @@ use Rattle.std.specs.Prelude.{◌≡◌, ℕ, List, [], ◌∷◌, Bool, not, Ok
 use Rattle.lisp_data.specs.Datum.{Datum}
 use Rattle.terms.specs.Terms.{Tm}
 use Rattle.terms.specs.Worlds.{World, arity}
-use Rattle.terms.specs.Translation.{Outcome, translate}
+use Rattle.term_forms.specs.Translation.{Outcome, translate}
 use Rattle.terms.specs.declared.sequent.Sequent.{Sequent}
 use Rattle.kernel.specs.Conclusion.{Conclusion}
 use Rattle.event_forms.specs.Shapes.{Event, InPackage, IncludeBook, Defun, Defthm, event_of}

@@ -6,7 +6,7 @@ use Rattle.lisp_data.specs.declared.detail.Detail.TheVariants.{Absent}
 use Rattle.terms.specs.Terms.{Tm}
 use Rattle.terms.specs.Worlds.{World, arity}
 use Rattle.terms.specs.Sound.{add_definition, add_theorem, add_event}
-use Rattle.terms.specs.Translation.{Outcome, translate}
+use Rattle.term_forms.specs.Translation.{Outcome, translate}
 use Rattle.terms.specs.declared.sequent.Sequent.{Sequent}
 use Rattle.proof_objects.specs.ProofTrees.{ProofTree, steps}
 use Rattle.kernel.specs.Concludes.{concludes, first_bad}

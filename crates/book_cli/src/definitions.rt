@@ -5,7 +5,7 @@ ghost use Rattle.lisp_data.specs.FormView.{form_of, IsProper, AllProper};
 ghost use Rattle.terms.specs.Measures.{mentions as calls};
 ghost use Rattle.terms.specs.Terms.{tms};
 ghost use Rattle.terms.specs.Measures.{mentions_in};
-ghost use Rattle.terms.specs.Translation.{distinct_after};
+ghost use Rattle.term_forms.specs.Translation.{distinct_after};
 ghost use Rattle.terms.specs.Worlds.{is_in};
 ghost use Rattle.book_cli.specs.Events as spec;
 ghost use Rattle.book_cli.specs.Halts.{Says};
@@ -15,9 +15,8 @@ use crate::own::WithOwn;
 use event_forms::symbol;
 use lisp_data::{Form, Symbol, Symbols};
 use std::alloc::Global;
-use terms::{
-    Definition, Node, Scope, Sequent, Term, is_function_name, is_variable_name, translate,
-};
+use term_forms::{Scope, is_function_name, is_variable_name, translate};
+use terms::{Definition, Node, Sequent, Term};
 use worlds::World;
 
 /// The most formals of a function.

@@ -3,7 +3,7 @@ use event_forms::EventError;
 use lisp_data::{Detail, Symbol};
 use lists::{Memory, Text};
 use std::alloc::Global;
-use terms::TermError;
+use term_forms::TermError;
 
 /// What ends the handling of an event.
 #[derive(Drop)]

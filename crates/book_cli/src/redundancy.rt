@@ -9,7 +9,8 @@ ghost use Rattle.book_cli.specs.Redundancy as spec;
 use event_forms::{Event, EventError, read_event};
 use lisp_data::{Form, Memory, Symbol};
 use std::alloc::Global;
-use terms::{Scope, Term, TermError, translate};
+use term_forms::{Scope, TermError, translate};
+use terms::Term;
 use worlds::World;
 
 /// Whether an event was accepted before (docs/BOOKS.md, "Redundant events").

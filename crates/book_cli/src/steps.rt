@@ -8,7 +8,7 @@ ghost use Rattle.terms.specs.Sound.{add_definition, add_theorem, add_event};
 ghost use Rattle.terms.specs.Formed.{IsWellFormed};
 ghost use Rattle.terms.specs.Measures.{mentions};
 ghost use Rattle.kernel.specs.Concludes.{concludes};
-ghost use Rattle.terms.specs.Translation.{translate};
+ghost use Rattle.term_forms.specs.Translation.{translate};
 ghost use Rattle.terms.specs.Worlds.{arity};
 ghost use Rattle.event_forms.specs.ProofTexts.{any};
 ghost use Rattle.event_forms.specs.Shapes.{Defun, Defthm};
@@ -30,7 +30,8 @@ use lisp_reader::Located;
 use lists::{Seq, Text};
 use proof_objects::{Proof, ProofNode};
 use std::alloc::Global;
-use terms::{Definition, Scope, Sequent, Term, Terms, translate};
+use term_forms::{Scope, translate};
+use terms::{Definition, Sequent, Term, Terms};
 use worlds::{World, WorldError};
 
 /// The lines of a report.
@@ -203,7 +204,7 @@ fn judge_defun(
     requires body { IsProper body.now }
     ensures { Judges world.now [] (of_event world.now (Defun name.now (map form_of formals.now) (form_of body.now))) result }
 {
-    terms::translated_terms_fit();
+    term_forms::translated_terms_fit();
     world.soundness();
     check_name(alloc, world, name)?;
     let definition = read_definition(alloc, world, name, formals, body)?;
@@ -241,7 +242,7 @@ fn judge_defthm(
     requires proof { IfSome proof (λ p. IsProper p.now) }
     ensures { Judges world.now (claims (translate (arity world.now.functions) any (form_of formula.now))) (of_event world.now (Defthm name.now (form_of formula.now) (if_given proof.entry (λ p. form_of p.now)))) result }
 {
-    terms::translated_terms_fit();
+    term_forms::translated_terms_fit();
     world.soundness();
     check_name(alloc, world, name)?;
     let formula = translate(alloc, formula, world, &Scope::Any)?;

@@ -8,3 +8,4 @@ pub mod ValueFalls
 pub mod Datum
 pub mod FormView
 pub mod Details
+pub mod RefusalCodes

@@ -2,6 +2,7 @@
 #![tactic(auto)]
 
 mod atom;
+mod code;
 mod detail;
 mod fault;
 mod form;
@@ -11,6 +12,7 @@ mod tests;
 mod value;
 
 pub use atom::{Atom, in_atom};
+pub use code::Code;
 pub use detail::Detail;
 pub use fault::{
     BAD_BYTE, BAD_DOT, BAD_NUMBER, BOOK_TOO_LONG, INTEGER_TOO_WIDE, STRAY_CLOSE, SYMBOL_TOO_LONG,

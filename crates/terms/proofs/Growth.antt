@@ -18,6 +18,7 @@ use Rattle.terms.proofs.Below.{Any}
 use Rattle.terms.proofs.Extend.{over_map, eval_with, find_later, arity_later}
 use Rattle.terms.proofs.Meaning.{arity_primitive, arity_defined}
 use Rattle.terms.proofs.Basics.{is_less}
+use Rattle.terms.proofs.Lists.{join_to}
 use Rattle.terms.proofs.Totality.{EachTm, by_terms, each_join, each_to, lacks_fits, lacks_all_fits, over_substitute, over_by_args, stays_total}
 
 -- the obligations of a definition that can be added fit the world
@@ -101,7 +102,7 @@ module _ (W : Functions) (formed : AllFormed W.vars W.defs) (basics : HasBasics 
   falls_fits : (m : Tm) → FitsOver W d.formals m → (c : RecursiveCall) → CallFits c → FitsSequent W (falls d.formals m c)
   falls_fits m o c f = record {
     universals = tt;
-    hyps = f.tests;
+    hyps = join_to (Fits W) [] c.tests tt f.tests;
     goal = (
       arity_primitive W (codes "<") _ is_less,
       (

@@ -9,9 +9,9 @@ use Rattle.terms.specs.declared.sequent.Sequent.{Sequent}
 use Rattle.terms.specs.declared.entries.Specification.{Specification}
 use Rattle.terms.specs.Definitions.{find, Interp}
 use Rattle.terms.specs.Evaluation.{resolve, variable, below, apply}
-use Rattle.terms.specs.Worlds.{names, Functions, World, FitsSequent, arity, arity_by, Fits, IsIn, Each, TotalFor, Total, Holds}
+use Rattle.terms.specs.Worlds.{names, Functions, World, FitsSequent, arity, arity_by, Fits, IsIn, TotalFor, Total, Holds}
 use Rattle.terms.specs.Measures.{obligations}
-use Rattle.terms.specs.Formed.{with_def, with_var, FitsOver, functions, AllFormed, VarsApart}
+use Rattle.terms.specs.Formed.{with_var, FitsOver, functions, AllFormed, VarsApart}
 use Rattle.terms.specs.Sound.{Sound, AllHold, iso_conditions, add_variable, add_specification, add_event}
 use Rattle.terms.proofs.Names.{same_name, name_self, name_apart}
 use Rattle.terms.proofs.Below.{Any}
