@@ -3,24 +3,8 @@ use Rattle.std.specs.Prelude.{ℕ, ◌≤◌, List, map}
 use Rattle.std.specs.Char.{to_ascii_uppercase}
 use Rattle.lisp_data.specs.Atoms as a
 use Rattle.lisp_data.specs.Atoms.{Leaf}
-use Rattle.lisp_data.specs.declared.atom.Shape.{Shape}
-use Rattle.lisp_data.specs.declared.atom.Shape.TheVariants as shapes
 use Rattle.lisp_data.specs.declared.atom.Atom.{Atom}
 use Rattle.lisp_data.specs.declared.atom.Atom.TheVariants as atoms
-
-abbrev pub seen_shape : Shape → a.Shape
-seen_shape shapes.Start = a.Start
-seen_shape shapes.Sign = a.Sign
-seen_shape shapes.Whole = a.Whole
-seen_shape shapes.Slash = a.Slash
-seen_shape shapes.Ratio = a.Ratio
-seen_shape shapes.Bare = a.Bare
-seen_shape shapes.Pointed = a.Pointed
-seen_shape shapes.Part = a.Part
-seen_shape shapes.Exponent = a.Exponent
-seen_shape shapes.ExponentSign = a.ExponentSign
-seen_shape shapes.Power = a.Power
-seen_shape shapes.NoNumber = a.NoNumber
 
 -- what was found of the atom r
 abbrev pub leaf_of : List ℕ → Atom → Leaf
