@@ -1,5 +1,5 @@
 -- The answers to events.
-use Rattle.std.proofs.Common.{◌≡◌, ℕ, Bool, true, false, List, [], ◌∷◌, Result, Ok, Err, if◌then◌else◌, refl, ap, sym, ◌∙◌, subst}
+use Rattle.std.proofs.Common.{codes, ◌≡◌, ℕ, Bool, true, false, List, [], ◌∷◌, Result, Ok, Err, if◌then◌else◌, refl, ap, sym, ◌∙◌, subst}
 use Rattle.std.specs.Result.{IsErr, IsErrAnd}
 use Rattle.lisp_data.specs.Values.{Name}
 use Rattle.lisp_data.specs.Datum.{Datum}
@@ -18,7 +18,7 @@ use Rattle.event_forms.specs.Refused.{not_an_event}
 use Rattle.event_forms.specs.Shapes.{Event, event_of}
 use Rattle.events.specs.Definitions.{unless_recursive}
 use Rattle.events.specs.Halts.{IsCoded, IsRefusal, IsFromTerm, Reads, Answers}
-use Rattle.events.specs.Lines.{refused_line}
+use Rattle.events.specs.Lines.{text_of, refused_line}
 use Rattle.events.specs.Refusals.{refusal_code}
 use Rattle.events.specs.Steps.{IsStep}
 use Rattle.events.specs.Verdicts as verdict
@@ -61,8 +61,19 @@ module _ (W : World) (form : Datum) (place index : ℕ) where
   stepped a h = by_shape_of (event_of form) refl a h
     where
       by_shape_of : (o : Outcome Event) → event_of form ≡ o → (a : StepAnswer) → Answers W form o (Ok a) → IsStep W form place index a
-      by_shape_of (Ok event) is (answer.Accepted next lines proofs) h = (event, is, h)
-      by_shape_of (Ok event) is (answer.Redundant lines) h = (event, is, h)
+      by_shape_of (Ok event) is (answer.Accepted next lines proofs) h = record {
+        event = event;
+        is_event = is;
+        plan = h.plan;
+        is_plan = h.is_plan;
+        verdict_is = ap (verdict.by_shape W form) is ∙ h.verdict_is;
+        lines_are = h.lines_are ∙ ap (λ o. text_of (codes "ok ") o ∷ []) (sym is);
+        proved = h.proved;
+      }
+      by_shape_of (Ok event) is (answer.Redundant lines) h = record {
+        verdict_is = ap (verdict.by_shape W form) is ∙ h.0;
+        lines_are = h.1 ∙ ap (λ o. text_of (codes "redundant ") o ∷ []) (sym is);
+      }
       by_shape_of (Ok event) is (answer.Printed lines) h = absurd h
       by_shape_of (Ok event) is (answer.Refused code lines) h = absurd h
       by_shape_of (Err e) is a h = absurd h

@@ -32,8 +32,9 @@ use Rattle.events.specs.Frames as frames
 use Rattle.events.specs.Frames.{Judged, Frame}
 use Rattle.events.specs.Kinds.{frame_of}
 use Rattle.events.specs.Verdicts as verdict
-use Rattle.events.specs.Verdicts.{by_way, all_proved, verdict_of}
-use Rattle.events.specs.Steps.{IsAccepted, IsRedundant}
+use Rattle.events.specs.Verdicts.{by_way, all_proved, checked, verdict_of}
+use Rattle.events.specs.Lines.{event_text}
+use Rattle.events.specs.declared.handle.EventProofs.{EventProofs}
 
 -- the refusal has this code and this detail, or it is want of memory
 abbrev pub IsCoded : ℕ → Detail → Halt → Type 0
@@ -129,10 +130,18 @@ ProvesAfter W cs ws old (Ok new) = AreProvedAfter W cs ws old new
 ProvesAfter W cs ws old (Err (Refused why)) = all_proved W cs ws ≡ Err why
 ProvesAfter W cs ws old (Err Memory) = Unit {0}
 
+-- an accepted event makes this world, and has this line and these proofs
+pub record IsTaken (W : World) (form : Datum) (e : Frame) (next : World) (lines : List (List ℕ)) (proofs : EventProofs) : Type 0 where
+  pub plan : Plan
+  pub is_plan : checked W e ≡ Ok plan
+  pub verdict_is : verdict_of W form e ≡ verdict.Accepted next
+  pub lines_are : lines ≡ event_text (codes "ok ") e ∷ []
+  pub proved : AreProofs W plan proofs.before proofs.after
+
 -- the answer to an event is its verdict's, with its line; a refusal has none yet
 abbrev pub Handles : World → Datum → Frame → Result StepAnswer Halt → Type 0
-Handles W form e (Ok (answer.Accepted next lines proofs)) = IsAccepted W form e next lines proofs
-Handles W form e (Ok (answer.Redundant lines)) = IsRedundant W form e lines
+Handles W form e (Ok (answer.Accepted next lines proofs)) = IsTaken W form e next lines proofs
+Handles W form e (Ok (answer.Redundant lines)) = (verdict_of W form e ≡ verdict.Redundant) × (lines ≡ event_text (codes "redundant ") e ∷ [])
 Handles W form e (Ok (answer.Printed lines)) = ⊥
 Handles W form e (Ok (answer.Refused code lines)) = ⊥
 Handles W form e (Err (Refused why)) = verdict_of W form e ≡ verdict.Refused why

@@ -7,7 +7,7 @@ use Rattle.plans.specs.declared.plan.Plan.{Plan}
 use Rattle.plans.specs.Plans.{IsLawfulPlan}
 use Rattle.events.specs.declared.handle.EventProofs.{EventProofs}
 use Rattle.events.specs.Frames.{Frame}
-use Rattle.events.specs.Verdicts.{Accepted, new_names, checked, verdict_of}
+use Rattle.events.specs.Verdicts.{Accepted, new_names, verdict_of}
 use Rattle.events.specs.Steps.{IsAccepted}
 
 -- each plan that the event has in a sound world where its names are new is lawful
@@ -21,5 +21,5 @@ AcceptedIsSound = (W : World) → Sound W → (form : Datum) (e : Frame) → IsL
 -- an accepted event has one proof for each of its conditions and claims
 abbrev pub ProofForEach : Type 0
 ProofForEach =
-    (W : World) (form : Datum) (e : Frame) (next : World) (lines : List (List ℕ)) (proofs : EventProofs) → IsAccepted W form e next lines proofs →
-    (p : Plan) × (checked W e ≡ Ok p) × (length proofs.before ≡ length p.conditions + length p.before) × (length proofs.after ≡ length p.after)
+    (W : World) (form : Datum) (next : World) (lines : List (List ℕ)) (proofs : EventProofs) → (a : IsAccepted W form next lines proofs) →
+    (length proofs.before ≡ length a.plan.conditions + length a.plan.before) × (length proofs.after ≡ length a.plan.after)

@@ -12,6 +12,3 @@ pub mod Lines
 pub mod Steps
 pub mod Halts
 pub mod Laws
-pub mod BeforeRedundancy
-pub mod Before
-pub mod SameVerdict

@@ -1,7 +1,6 @@
 //! Laws of events, each the contract of a function that does nothing.
 
 ghost use Rattle.events.specs.Laws.{AcceptedIsSound, ProofForEach};
-ghost use Rattle.events.specs.SameVerdict.{SameVerdict};
 
 /// A lawful event that is accepted in a sound world makes a sound world.
 pub fn accepted_is_sound()
@@ -14,9 +13,4 @@ pub fn accepted_is_sound()
 /// An accepted event has one proof for each of its conditions and claims.
 pub fn proof_for_each()
     ensures { ProofForEach }
-{}
-
-/// The verdict is the one that there was.
-pub fn same_verdict()
-    ensures { SameVerdict }
 {}
