@@ -1,4 +1,4 @@
-//! Entries of two kinds.
+//! The world with an entry.
 
 use super::*;
 use lisp_data::Symbol;
@@ -9,7 +9,7 @@ use worlds::World;
 fn installs_a_variable(rt: HostRuntime) -> Result<(), Fail> {
     let alloc = rt.alloc();
     let world = World::initial(alloc)?;
-    let name = Symbol::named(alloc, "?F")?;
+    let name = Symbol::new(alloc, "?F")?;
     if !world.is_free(&name) {
         return Err(Fail::from("taken"));
     }
