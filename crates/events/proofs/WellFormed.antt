@@ -16,6 +16,7 @@ use Rattle.term_forms.specs.Translation.{Takes, and_then, map_outcome, distinct_
 use Rattle.term_forms.specs.TranslationLaws.{HasWords, TranslatedTermsFit}
 use Rattle.terms.specs.declared.definition.Definition.{Definition}
 use Rattle.terms.proofs.Extend.{over_map, arity_later}
+use Rattle.terms.proofs.Later.{has_append, has_basics}
 use Rattle.terms.proofs.Meaning.{arity_defined}
 use Rattle.terms.proofs.Names.{same_name, name_self}
 use Rattle.term_forms.specs.Names.{is_function_name}
@@ -77,7 +78,7 @@ unfolding primitive primitives
 words W sound = record {
   has_if = refl;
   has_equal = refl;
-  has_not = arity_defined W.functions sound.formed (codes "NOT") not_def sound.basics.has_not;
+  has_not = arity_defined W.functions sound.formed (codes "NOT") not_def (has_basics W sound).has_not;
   has_less = refl;
   has_plus = refl;
   has_times = refl;
@@ -85,7 +86,7 @@ words W sound = record {
   has_cons = refl;
   has_car = refl;
   has_cdr = refl;
-  has_append = arity_defined W.functions sound.formed (codes "BINARY-APPEND") binary_append_def sound.append;
+  has_append = arity_defined W.functions sound.formed (codes "BINARY-APPEND") binary_append_def (has_append W sound);
 }
 
 -- a new function beside them
