@@ -1,15 +1,14 @@
 //! The world with what a plan makes.
 
 ghost use Rattle.std.specs.Prelude.{◌≡◌, true, IfOk, IsErrOf, Ok};
-ghost use Rattle.terms.specs.Worlds.{Each};
 ghost use Rattle.terms.specs.Sound.{add_theorem};
 ghost use Rattle.worlds.specs.Names.{is_free};
-ghost use Rattle.plans.specs.Entries.{Admits, AdmitsAll, IsBuilt, IsNewTheorem, add_entry, add_entries};
+ghost use Rattle.plans.specs.Entries.{Admits, AdmitsAll, IsNewTheorem, add_entry, add_entries};
 
 use crate::plan::Entry;
 use lisp_data::{Memory, Symbol};
 use std::alloc::Global;
-use terms::{Sequent, Specification};
+use terms::Sequent;
 use worlds::{World, WorldError};
 
 /// A larger world, whose new name is free.
@@ -24,19 +23,6 @@ fn grown(world: Result<World, WorldError>) -> Result<World, Memory>
             WorldError::Memory => Err(Memory),
         },
     }
-}
-
-fn copied(alloc: Global, specification: &Specification) -> Result<Specification, Memory>
-    ensures { IfOk result (λ s. s ≡ specification.now) }
-{
-    let name = specification.name.share()?;
-    let variables = specification.variables.copy(alloc)?;
-    let matrix = specification.matrix.share()?;
-    Ok(Specification {
-        name,
-        variables,
-        matrix,
-    })
 }
 
 fn with_new_theorem(
@@ -54,10 +40,9 @@ fn with_new_theorem(
     grown(world.with_theorem(alloc, name, sequent))
 }
 
-/// The world with one more entry. Nothing makes an isomorphism, an instance or a link yet.
+/// The world with one more entry.
 fn with_entry(alloc: Global, world: &World, entry: &Entry) -> Result<World, Memory>
-    requires admits { Admits world.now entry.now }
-    requires built { IsBuilt entry.now }
+    requires { Admits world.now entry.now }
     ensures { IfOk result (λ next. next ≡ add_entry entry.now world.now) }
 {
     match entry {
@@ -66,15 +51,18 @@ fn with_entry(alloc: Global, world: &World, entry: &Entry) -> Result<World, Memo
         }
         Entry::Variable(name, arity) => grown(world.with_variable(alloc, name.share()?, *arity)),
         Entry::Theorem(name, sequent) => with_new_theorem(alloc, world, name, sequent),
-        Entry::Spec(specification) => grown(world.with_spec(alloc, copied(alloc, specification)?)),
-        Entry::Isomorphism(_) | Entry::Instance(_, _, _) | Entry::Chained(_, _) => unreachable!(),
+        Entry::Spec(specification) => grown(world.with_spec(alloc, specification.copy(alloc)?)),
+        Entry::Isomorphism(iso) => grown(world.with_iso(alloc, iso.copy(alloc)?)),
+        Entry::Instance(of, pairs, instance) => {
+            world.with_instance(alloc, of.share()?, pairs.copy(alloc)?, instance.share()?)
+        }
+        Entry::Chained(theorem, link) => world.with_link(alloc, theorem.share()?, link.copy(alloc)?),
     }
 }
 
 /// The world with entries, added one after the other.
 pub fn install(alloc: Global, world: World, entries: &[Entry]) -> Result<World, Memory>
-    requires admits { AdmitsAll world entries.now }
-    requires built { Each IsBuilt entries.now }
+    requires { AdmitsAll world entries.now }
     ensures { IfOk result (λ next. next ≡ add_entries entries.now world) }
 {
     match entries {
