@@ -2,7 +2,7 @@
 use Rattle.std.specs.Prelude.{◌≤◌, max}
 use Rattle.std.proofs.Common.{arith}
 use Rattle.lisp_data.specs.Values.{path}
-use Rattle.lisp_data.specs.ValueView.{val_of, depth}
+use Rattle.lisp_data.specs.view.ValueView.{val_of, depth}
 use Rattle.lisp_data.specs.declared.value.Value.{Value}
 use Rattle.lisp_data.specs.declared.value.Value.TheVariants.{Int, Sym, Pair}
 use Rattle.lisp_data.specs.declared.value.PairNode.TheInside.{Inside}

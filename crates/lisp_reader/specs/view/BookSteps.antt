@@ -20,10 +20,6 @@ GoesOnWithin n (Ok (Some x)) = x.1 ≤ n
 GoesOnWithin n _ = Unit {0}
 
 -- the form that was found is proper
-abbrev pub FindsProper : Result (Option Located) ReadError → Type 0
-FindsProper (Ok (Some l)) = IsProper l.form
-FindsProper _ = Unit {0}
-
 abbrev pub StepIsProper : Result (Option (Located × ℕ)) ReadError → Type 0
 StepIsProper (Ok (Some x)) = IsProper x.0.form
 StepIsProper _ = Unit {0}
