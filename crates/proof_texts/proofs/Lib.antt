@@ -1,0 +1,4 @@
+pub mod ItemLemmas
+pub mod PartLemmas
+pub mod StepLemmas
+pub mod ReadLemmas

@@ -1,0 +1,14 @@
+//! The texts of proofs: they are read and printed by one table of words.
+#![tactic(auto)]
+
+mod errors;
+mod forms;
+mod parts;
+mod read;
+mod steps;
+mod words;
+
+pub use errors::ProofError;
+pub use forms::{contains, is_among, is_word, items, symbol, text};
+pub use read::read_proof;
+pub use words::{Kind, Word};
