@@ -1,17 +1,17 @@
-use lisp_data::{Detail, Memory, Symbol, SymbolError, Text};
-use std::alloc::Global;
-use terms::TermError;
+//! Why a form is no event.
 
-/// Why a form is no event, or no proof.
+use lisp_data::{Detail, Memory, Symbol, Text};
+use std::alloc::Global;
+
+/// Why a form is no event (docs/BOOKS.md, "Events").
 #[derive(Drop)]
 pub enum EventError {
-    /// A refusal by its code: 11 to 15, or 17 to 20.
+    /// A refusal by its code: 11 to 14.
     Refused { code: u8, detail: Detail },
     Memory,
 }
 
 impl EventError {
-    ghost use Rattle.std.specs.Prelude.{codes};
     ghost use Rattle.lisp_data.specs.declared.detail.Detail.TheVariants.{Absent, Name, Word};
     ghost use Rattle.event_forms.specs.Refused.{IsError};
 
@@ -51,17 +51,6 @@ impl EventError {
         EventError::with_text(alloc, 14, text)
     }
 
-    /// The text of a proof has another shape.
-    pub(crate) fn bad_proof(alloc: Global) -> EventError
-        ensures { IsError 12 (Name (codes ":PROOF")) result }
-    {
-        match Symbol::new(alloc, ":PROOF") {
-            Ok(key) => EventError::bad_key(&key),
-            Err(SymbolError::BadText) => unreachable!(),
-            Err(SymbolError::Memory) => EventError::Memory,
-        }
-    }
-
     fn with_text(alloc: Global, code: u8, text: &[u8]) -> EventError
         ensures { IsError code (Word text.now) result }
     {
@@ -95,18 +84,5 @@ impl From<Memory> for EventError {
 
     fn from(_error: Memory) -> EventError {
         EventError::Memory
-    }
-}
-
-impl From<TermError> for EventError {
-    ghost use Rattle.event_forms.specs.ErrorView.{IsFrom};
-
-    ghost from_gives = { λ t e. IsFrom t e };
-
-    fn from(error: TermError) -> EventError {
-        match error {
-            TermError::Refused { code, detail } => EventError::Refused { code, detail },
-            TermError::Memory => EventError::Memory,
-        }
     }
 }

@@ -2,3 +2,4 @@ pub mod ItemLemmas
 pub mod PartLemmas
 pub mod StepLemmas
 pub mod ReadLemmas
+pub mod PrintLemmas

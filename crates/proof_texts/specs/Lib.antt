@@ -5,3 +5,5 @@ pub mod Words
 pub mod Parts
 pub mod StepParts
 pub mod ProofTexts
+pub mod Given
+pub mod Printing

@@ -1,11 +1,16 @@
 -- The words of proofs, and the kinds of the parts behind them.
-use Rattle.std.specs.Prelude.{ℕ, bytes_eq, if◌then◌else◌, codes, List, [], ◌∷◌, Option, Some, None}
+use Rattle.std.specs.Prelude.{ℕ, Bool, true, false, bytes_eq, if◌then◌else◌, codes, List, [], ◌∷◌, Option, Some, None}
 use Rattle.proof_objects.specs.RuleNames as rule_names
 use Rattle.proof_objects.specs.declared.rule.Rule.TheVariants.{Hyp, Refl, Replace, Unfold, Eval, Substitute, IfTrue, IfFalse, Cases, Cut, Weaken, Contradict, Axiom, Ring, ImpliesIn, ImpliesOut, Universal, Discharge, Theorem, Instance, Induct}
 use Rattle.proof_texts.specs.declared.words.Kind.{Kind}
 use Rattle.proof_texts.specs.declared.words.Kind.TheVariants as kind
 use Rattle.proof_texts.specs.declared.words.Word.{Word}
 use Rattle.proof_texts.specs.declared.words.Word.TheVariants.{Rule, Measure, Isomorphism}
+
+-- the part is a proof
+abbrev pub is_proof : Kind → Bool
+is_proof kind.Proof = true
+is_proof _ = false
 
 -- all words
 unfoldable pub words : List Word

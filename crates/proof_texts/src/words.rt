@@ -32,6 +32,18 @@ pub enum Kind {
     Cases,
 }
 
+impl Kind {
+    /// Whether the part is a proof.
+    pub(crate) fn is_proof(self) -> bool
+        ensures { result ≡ spec.is_proof self }
+    {
+        match self {
+            Kind::Proof => true,
+            _ => false,
+        }
+    }
+}
+
 /// The word that begins a proof's text: its rule's, or that of a fact that is no theorem (docs/PROOFS.md, "The rules").
 #[derive(Clone, Copy, Debug, PartialEq, Eq)]
 pub enum Word {
