@@ -7,9 +7,8 @@ use Rattle.ports.specs.Streams.{Grows, GrowsByFront}
 use Rattle.ports.proofs.Streams.{Grows-trans}
 use Rattle.book_cli.specs.declared.progress.Progress.{Progress}
 use Rattle.book_cli.specs.Begun.{IsBegun}
-use Rattle.book_cli.specs.Steps.{IsNext}
-use Rattle.book_cli.specs.Verdicts.{Verdict, Accepted, Redundant, Refused, verdict}
-use Rattle.book_cli.specs.Report.{Read, all_lines, after, is_refusal, goes_on, event_line, turn_lines, end_lines, report_from, world_from, accepts, last_line}
+use Rattle.events.specs.Verdicts.{Verdict, Accepted, Redundant, Refused, verdict}
+use Rattle.book_cli.specs.Report.{Read, IsNext, all_lines, after, is_refusal, goes_on, event_line, turn_lines, end_lines, report_from, world_from, accepts, last_line}
 
 module _ (a b c : Option (List ℕ)) where
   -- a piece more

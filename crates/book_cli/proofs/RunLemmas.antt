@@ -58,14 +58,6 @@ front_first a b p q g =
 pub front_second : (a b c : Option (List ℕ)) (p q : List ℕ) → Grows a b p → GrowsByFront b c q → GrowsByFront a c (p ++ q)
 front_second a b c p q g h = begun_cut a b c q q [] (p ++ q) (record { written = p; grown = g; split = refl }) (sym (append-nil q)) h
 
--- a list of one word, which is tested
-pub one_word : (words : List (List ℕ)) (word check : List ℕ) (b : Bool) → 1 ≤ length words → length words < 2 → word ≡ get_or words 0 word → b ≡ pointwise nat_eq word check → (IsTrue b → words ≡ check ∷ []) × (words ≡ check ∷ [] → IsTrue b)
-one_word [] word check b h k e t = absurd (omega arith)
-one_word (w ∷ v ∷ words) word check b h k e t = absurd (omega arith)
-one_word (w ∷ []) word check true h k e t = (λ _. ap (λ x. x ∷ []) (sym e ∙ same_text word check t), λ _. refl)
-one_word (w ∷ []) word check false h k e t =
-    (λ i. cc, λ same. let is : w ≡ check = cc in absurd (other_text word check t (e ∙ is)))
-
 -- a book that was read whole and reported
 pub accepted_run : (continues : Bool) (left left_after held held_after : Option (List ℕ)) (bytes : List ℕ) → IsWhole left left_after 1048576 bytes → IsReported continues held held_after (parse false bytes) true → IsAcceptedRun continues left left_after held held_after
 accepted_run continues left left_after held held_after bytes whole it =

@@ -1,10 +1,4 @@
-pub mod Events
-pub mod Refusals
-pub mod Redundancy
-pub mod Verdicts
 pub mod Report
-pub mod Steps
-pub mod Halts
 pub mod Begun
 pub mod Outcomes
 pub mod CommandLines

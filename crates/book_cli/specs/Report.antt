@@ -1,19 +1,16 @@
 -- What is written for a book, and the world that it makes.
-use Rattle.std.specs.Prelude.{ℕ, ◌+◌, Bool, true, false, List, [], ◌∷◌, ◌++◌, Option, Some, None, Ok, Err, codes, if◌then◌else◌}
+use Rattle.std.specs.Prelude.{◌≡◌, ℕ, ◌+◌, Bool, true, false, not, List, [], ◌∷◌, ◌++◌, Option, Some, None, Ok, Err, codes, if◌then◌else◌}
 use Rattle.std.specs.Fmt.{decimal}
 use Rattle.lisp_data.specs.Datum.{Datum}
 use Rattle.lisp_data.specs.declared.detail.Detail.TheVariants.{Absent}
 use Rattle.lisp_reader.specs.Grammar.{book_of}
 use Rattle.terms.specs.Worlds.{World}
 use Rattle.terms.specs.Sound.{initial_world}
-use Rattle.event_forms.specs.Shapes.{Event, InPackage, IncludeBook, Defun, Defthm, event_of}
-use Rattle.terms.specs.Translation.{Outcome}
 use Rattle.worlds.specs.Entries.{further_theorems}
 use Rattle.book_cli.specs.declared.progress.Progress.{Progress}
-use Rattle.book_cli.specs.declared.refusal.Refusal.{Refusal}
-use Rattle.book_cli.specs.declared.refusal.Refusal.TheVariants.{Coded}
-use Rattle.book_cli.specs.Refusals.{refusal_text}
-use Rattle.book_cli.specs.Verdicts.{Verdict, Accepted, Redundant, Refused, verdict}
+use Rattle.events.specs.declared.refusal.Refusal.TheVariants.{Coded}
+use Rattle.events.specs.Lines.{ok_line, redundant_line, refused_line}
+use Rattle.events.specs.Verdicts.{Verdict, Accepted, Redundant, Refused, verdict}
 
 -- forms with the places of their first bytes, and the first fault with its place, or the end
 abbrev pub Read : Type 0
@@ -34,6 +31,11 @@ is_refusal (Accepted next) = false
 is_refusal Redundant = false
 is_refusal (Refused why) = true
 
+-- the progress after an event, and whether it wasn't refused
+pub record IsNext (v : Verdict) (old new : Progress) (accepted : Bool) : Type 0 where
+  pub progress : new ≡ after old v
+  pub accepts : accepted ≡ not (is_refusal v)
+
 -- the first refusal ends the run, unless it is to continue
 abbrev pub goes_on : Bool → Verdict → Bool
 goes_on continues v = if is_refusal v then continues else true
@@ -42,32 +44,6 @@ goes_on continues v = if is_refusal v then continues else true
 abbrev pub all_lines : List (List ℕ) → List ℕ
 all_lines [] = []
 all_lines (line ∷ lines) = line ++ all_lines lines
-
--- an event's word and its name
-abbrev pub event_name : Event → List ℕ
-event_name InPackage = codes "in-package ACL2"
-event_name (IncludeBook book) = codes "include-book " ++ book
-event_name (Defun f formals body) = codes "defun " ++ f
-event_name (Defthm n formula proof) = codes "defthm " ++ n
-
--- the line of an event, which begins with a word on what became of it
-abbrev pub event_text : List ℕ → Event → List ℕ
-event_text begin event = begin ++ (event_name event ++ codes "\n")
-
--- such a line is written of events alone
-abbrev pub text_of : List ℕ → Outcome Event → List ℕ
-text_of begin (Ok event) = event_text begin event
-text_of begin (Err e) = []
-
-abbrev pub ok_line : Datum → List ℕ
-ok_line form = text_of (codes "ok ") (event_of form)
-
-abbrev pub redundant_line : Datum → List ℕ
-redundant_line form = text_of (codes "redundant ") (event_of form)
-
--- events are counted from 1, and places from 0
-abbrev pub refused_line : ℕ → Refusal → ℕ → List ℕ
-refused_line index why place = codes "refused " ++ (decimal index ++ (codes " " ++ (refusal_text why ++ (codes " at " ++ (decimal place ++ codes "\n")))))
 
 -- the count of theorems leaves out those that each book begins with
 abbrev pub last_line : Progress → List ℕ

@@ -1,22 +1,21 @@
 //! The report of a book.
 
-ghost use Rattle.std.specs.Prelude.{◌≡◌, ◌≤◌, ◌<◌, ◌^◌, ◌-◌, ◌+◌, ◌||◌, ◌&&◌, length, IfOk, OnOk, OnErr, IsErrOf, Some};
+ghost use Rattle.std.specs.Prelude.{◌≡◌, ◌++◌, codes, ◌≤◌, ◌<◌, ◌^◌, ◌-◌, ◌+◌, ◌||◌, ◌&&◌, length, IfOk, OnOk, OnErr, IsErrOf, Some};
+ghost use Rattle.std.specs.Fmt.{decimal};
 ghost use Rattle.lisp_data.specs.FormView.{form_of, IsProper};
 ghost use Rattle.ports.specs.Causes.{Rose};
 ghost use Rattle.ports.specs.Streams.{Grows, GrowsByFront};
 ghost use Rattle.terms.specs.Sound.{Sound};
-ghost use Rattle.book_cli.specs.Verdicts.{verdict};
-ghost use Rattle.book_cli.specs.Report.{all_lines, event_line, turn_lines, refused_line, last_line, end_lines, report_of, accepts_all, world_made};
-ghost use Rattle.book_cli.specs.Steps.{IsNext};
+ghost use Rattle.events.specs.Lines.{refused_line};
+ghost use Rattle.events.specs.Verdicts.{verdict};
+ghost use Rattle.book_cli.specs.Report.{all_lines, IsNext, event_line, turn_lines, last_line, end_lines, report_of, accepts_all, world_made};
 
-use crate::lines::{accepted_text, refused_text};
 use crate::progress::Progress;
-use crate::refusal::Refusal;
-use crate::steps::{StepAnswer, step};
 use crate::stop::Stop;
+use events::{Refusal, StepAnswer, refused_text, step};
 use lisp_data::Detail;
 use lisp_reader::{FormReader, Located, ReadError};
-use lists::Text;
+use lists::{Memory, Text};
 use ports::{Sink, put_all};
 use std::alloc::Global;
 use worlds::World;
@@ -134,6 +133,14 @@ fn write_refusal<K: Sink>(
     let line = refused_text(alloc, events + 1, why, place)?;
     put_all(out, line.as_slice())?;
     Ok(())
+}
+
+/// The last line.
+fn accepted_text(alloc: Global, events: u64, theorems: u64) -> Result<Text, Memory>
+    ensures { IfOk result (λ text. text ≡ codes "accepted " ++ (decimal events ++ (codes " events " ++ (decimal theorems ++ codes " theorems\n")))) }
+{
+    let text = format!(in alloc; "accepted {events} events {theorems} theorems\n")?;
+    Text::from_slice(alloc, text.as_bytes())
 }
 
 /// Writes the last line.

@@ -65,7 +65,7 @@ fn assert_refused(rt: &impl Abort, error: &EventError, code: u8, text: &[u8]) {
             code: given,
             detail,
         } => {
-            assert_eq!(rt; *given, code);
+            assert_eq!(rt; given.number(), code);
             match detail {
                 Detail::Absent => assert_eq!(rt; text.len(), 0),
                 Detail::Name(name) => assert_eq!(rt; name.text().as_bytes(), text),

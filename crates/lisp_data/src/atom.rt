@@ -1,15 +1,14 @@
 //! What the atoms of a book are.
 
-ghost use Rattle.std.specs.Prelude.{◌≡◌, ◌<◌, ◌≤◌, nat_eq, length, drop, map, false};
+ghost use Rattle.std.specs.Prelude.{◌≡◌, ◌+◌, ◌<◌, ◌≤◌, nat_eq, length, take, drop, map, false, IfSome};
 ghost use Rattle.std.specs.List.{list_all, position};
 ghost use Rattle.std.specs.Char.{to_ascii_uppercase};
 ghost use Rattle.std.specs.Str.Parse.{signed_digits_value};
 ghost use Rattle.lisp_data.specs.Atoms as spec;
-ghost use Rattle.lisp_data.specs.AtomView.{seen_shape, leaf_of, IsNear};
+ghost use Rattle.lisp_data.specs.view.AtomView.{leaf_of, IsNear};
+ghost use Rattle.lisp_data.specs.view.Automaton as view;
 
-use crate::fault::{
-    BAD_BYTE, BAD_DOT, BAD_NUMBER, BOOK_TOO_LONG, INTEGER_TOO_WIDE, SYMBOL_TOO_LONG,
-};
+use crate::code::Code;
 
 /// What an atom is.
 #[derive(Clone, Copy, Debug, PartialEq, Eq)]
@@ -19,8 +18,8 @@ pub enum Atom {
     Symbol,
     /// A single point.
     Point,
-    /// No form: the code of the fault, and its place in the atom.
-    Wrong(u8, usize),
+    /// No form: the fault's code, and its place in the atom.
+    Wrong(Code, usize),
 }
 
 /// How far an atom has the form of a number.
@@ -58,14 +57,14 @@ pub fn in_atom(b: u8) -> bool
     32 < b && b < 127 && !is_delimiter(b)
 }
 
-#[tactic(auto, unfolding(crate::specs::Atoms::is_sign))]
+#[tactic(auto, unfolding(crate::specs::Numbers::is_sign))]
 fn is_sign(b: u8) -> bool
     ensures { result ≡ spec.is_sign b }
 {
     matches!(b, b'+' | b'-')
 }
 
-#[tactic(auto, unfolding(crate::specs::Atoms::is_exponent))]
+#[tactic(auto, unfolding(crate::specs::Numbers::is_exponent))]
 fn is_exponent(b: u8) -> bool
     ensures { result ≡ spec.is_exponent b }
 {
@@ -77,7 +76,7 @@ fn is_exponent(b: u8) -> bool
 
 impl Shape {
     fn after_digit(self) -> Shape
-        ensures { seen_shape result ≡ spec.after_digit (seen_shape self) }
+        ensures { result ≡ view.after_digit self }
     {
         match self {
             Shape::Start | Shape::Sign | Shape::Whole => Shape::Whole,
@@ -89,7 +88,7 @@ impl Shape {
     }
 
     fn after_other(self, b: u8) -> Shape
-        ensures { seen_shape result ≡ spec.after_other (seen_shape self) b }
+        ensures { result ≡ view.after_other self b }
     {
         match self {
             Shape::Start if is_sign(b) => Shape::Sign,
@@ -104,7 +103,7 @@ impl Shape {
 
     /// The shape with one more byte.
     fn grown(self, b: u8) -> Shape
-        ensures { seen_shape result ≡ spec.grown (seen_shape self) b }
+        ensures { result ≡ view.grown self b }
     {
         if b.is_ascii_digit() {
             self.after_digit()
@@ -114,7 +113,7 @@ impl Shape {
     }
 
     fn of(atom: &[u8]) -> Shape
-        ensures { seen_shape result ≡ spec.shape_of atom.now }
+        ensures { result ≡ view.shape_of atom.now }
     {
         let mut shape = Shape::Start;
         for b in atom {
@@ -139,59 +138,95 @@ fn is_all_points(atom: &[u8]) -> bool
 
 /// The place of the first colon.
 fn colon(bytes: &[u8]) -> Option<usize>
-    ensures { result ≡ position (λ b. nat_eq b 58) bytes.now }
+    ensures place { result ≡ position (λ b. nat_eq b 58) bytes.now }
+    ensures within { IfSome result (λ place. place < length bytes.now) }
 {
     bytes.iter().position(|b| *b == b':')
 }
 
-/// The place of the first colon past the first byte, counted from the second.
+/// The place of the first colon past the first byte, counted from the second, among the 256 first bytes.
 #[tactic(auto, using(crate::proofs::AtomSteps::atoms))]
 fn late_colon(atom: &[u8]) -> Option<usize>
     requires { 0 < length atom.now }
-    ensures { result ≡ position (λ b. nat_eq b 58) (drop 1 atom.now) }
+    ensures place { result ≡ position (λ b. nat_eq b 58) (drop 1 (take 256 atom.now)) }
+    ensures within { IfSome result (λ place. place + 1 < length atom.now) }
 {
-    colon(&atom[1..])
+    let len = atom.len().min(256);
+    colon(&atom[..len][1..])
 }
 
 /// The integer of a numeral.
 fn integer(numeral: &str) -> Atom
-    requires { spec.shape_of numeral.now ≡ spec.Whole }
+    requires { view.shape_of numeral.now ≡ Shape.Whole }
     ensures value { leaf_of numeral.now result ≡ spec.integer (signed_digits_value 10 numeral.now) }
     ensures near { IsNear 0 result }
 {
     match numeral.parse::<i128>() {
         Ok(number) => Atom::Integer(number),
-        Err(_) => Atom::Wrong(INTEGER_TOO_WIDE, 0),
+        Err(_) => Atom::Wrong(Code::IntegerTooWide, 0),
     }
 }
 
-fn symbol(text: &str, cut: bool) -> Atom
-    ensures value { leaf_of text.now result ≡ spec.symbol cut text.now }
-    ensures whole { result ≡ Atom.Symbol → spec.symbol false text.now ≡ spec.Named (map to_ascii_uppercase text.now) }
+/// An atom that is no number and can't become one.
+fn word(text: &str, cut: bool) -> Atom
+    requires { 0 < length text.now }
+    ensures value { leaf_of text.now result ≡ spec.word cut text.now }
+    ensures whole { result ≡ Atom.Symbol → spec.word false text.now ≡ spec.Named (map to_ascii_uppercase text.now) }
     ensures near { IsNear (length text.now) result }
 {
-    if text.len() > 255 {
-        Atom::Wrong(SYMBOL_TOO_LONG, 255)
-    } else if cut {
-        Atom::Wrong(BOOK_TOO_LONG, text.len())
-    } else {
-        Atom::Symbol
+    match late_colon(text.as_bytes()) {
+        Some(place) => Atom::Wrong(Code::BadByte, place + 1),
+        None if text.len() > 255 => Atom::Wrong(Code::SymbolTooLong, 255),
+        None if cut => Atom::Wrong(Code::BookTooLong, text.len()),
+        None => Atom::Symbol,
     }
 }
 
 /// An atom whose shape is known.
 fn shaped(text: &str, cut: bool, shape: Shape) -> Atom
-    requires { seen_shape shape ≡ spec.shape_of text.now }
-    ensures value { leaf_of text.now result ≡ spec.shaped cut text.now (seen_shape shape) }
-    ensures whole { result ≡ Atom.Symbol → spec.shaped false text.now (seen_shape shape) ≡ spec.Named (map to_ascii_uppercase text.now) }
+    requires some { 0 < length text.now }
+    requires shape { shape ≡ view.shape_of text.now }
+    ensures value { leaf_of text.now result ≡ view.shaped cut text.now shape }
+    ensures whole { result ≡ Atom.Symbol → view.shaped false text.now shape ≡ spec.Named (map to_ascii_uppercase text.now) }
     ensures near { IsNear (length text.now) result }
 {
     match shape {
-        Shape::NoNumber => symbol(text, cut),
-        _ if cut => Atom::Wrong(BOOK_TOO_LONG, text.len()),
+        Shape::NoNumber => word(text, cut),
+        _ if cut => Atom::Wrong(Code::BookTooLong, text.len()),
         Shape::Whole => integer(text),
-        Shape::Ratio | Shape::Pointed | Shape::Part | Shape::Power => Atom::Wrong(BAD_NUMBER, 0),
-        _ => symbol(text, false),
+        Shape::Ratio | Shape::Pointed | Shape::Part | Shape::Power => {
+            Atom::Wrong(Code::BadNumber, 0)
+        }
+        _ => word(text, false),
+    }
+}
+
+/// An atom of points only.
+fn points(text: &str, cut: bool) -> Atom
+    ensures value { leaf_of text.now result ≡ spec.points cut text.now }
+    ensures near { IsNear (length text.now) result }
+    ensures form { result ≡ Atom.Symbol → ⊥ }
+{
+    if cut {
+        Atom::Wrong(Code::BookTooLong, text.len())
+    } else if text.len() == 1 {
+        Atom::Point
+    } else {
+        Atom::Wrong(Code::BadDot, 0)
+    }
+}
+
+/// An odd atom. A number sign alone, behind which the book goes on, may yet begin a comment.
+fn odd(text: &str, cut: bool) -> Atom
+    requires { 0 < length text.now }
+    ensures value { leaf_of text.now result ≡ spec.odd cut text.now }
+    ensures near { IsNear (length text.now) result }
+    ensures form { result ≡ Atom.Symbol → ⊥ }
+{
+    if cut && text.len() == 1 {
+        Atom::Wrong(Code::BookTooLong, 1)
+    } else {
+        Atom::Wrong(Code::BadByte, 0)
     }
 }
 
@@ -206,25 +241,11 @@ impl Atom {
     {
         let bytes = text.as_bytes();
         if is_odd(bytes) {
-            if cut && bytes.len() == 1 {
-                return Atom::Wrong(BOOK_TOO_LONG, 1);
-            }
-            return Atom::Wrong(BAD_BYTE, 0);
-        }
-        if is_all_points(bytes) {
-            if cut {
-                return Atom::Wrong(BOOK_TOO_LONG, bytes.len());
-            }
-            return if bytes.len() == 1 {
-                Atom::Point
-            } else {
-                Atom::Wrong(BAD_DOT, 0)
-            };
-        }
-        match late_colon(bytes) {
-            Some(place) if place < 255 => Atom::Wrong(BAD_BYTE, place + 1),
-            Some(_) => Atom::Wrong(SYMBOL_TOO_LONG, 255),
-            None => shaped(text, cut, Shape::of(bytes)),
+            odd(text, cut)
+        } else if is_all_points(bytes) {
+            points(text, cut)
+        } else {
+            shaped(text, cut, Shape::of(bytes))
         }
     }
 }

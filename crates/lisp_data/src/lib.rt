@@ -4,8 +4,8 @@
 mod atom;
 mod code;
 mod detail;
-mod fault;
 mod form;
+mod laws;
 mod symbol;
 #[cfg(test)]
 mod tests;
@@ -14,11 +14,8 @@ mod value;
 pub use atom::{Atom, in_atom};
 pub use code::Code;
 pub use detail::Detail;
-pub use fault::{
-    BAD_BYTE, BAD_DOT, BAD_NUMBER, BOOK_TOO_LONG, INTEGER_TOO_WIDE, STRAY_CLOSE, SYMBOL_TOO_LONG,
-    TOO_DEEP, UNCLOSED_LIST, UNCLOSED_TEXT,
-};
 pub use form::{Form, Forms};
+pub use laws::numbers_begin;
 pub use lists::{Bytes, Memory, Seq, Share, Text};
 pub use symbol::{Symbol, SymbolError};
 pub use value::{MAX_PAIRS, MAX_PATH, PairNode, Value, ValueError};

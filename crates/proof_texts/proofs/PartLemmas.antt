@@ -9,8 +9,8 @@ use Rattle.lisp_data.specs.declared.form.Forms.{Forms}
 use Rattle.lisp_data.specs.declared.form.Form.{Form, Int, Sym, Text, List as Listed, List'}
 use Rattle.lisp_data.proofs.Chains.{form_of-int, form_of-sym, form_of-text}
 use Rattle.lisp_data.proofs.Proper.{proper-list, form_of-listed}
-use Rattle.terms.specs.Translation.{Outcome, and_rest}
-use Rattle.terms.specs.Outcomes.{each, after}
+use Rattle.term_forms.specs.Translation.{Outcome, and_rest}
+use Rattle.term_forms.specs.Outcomes.{each, after}
 use Rattle.proof_texts.specs.Refused.{IsRefusal}
 use Rattle.proof_texts.specs.declared.errors.ProofError.{ProofError}
 use Rattle.proof_texts.specs.declared.errors.ProofError.TheVariants.{Refused, Memory}

@@ -7,7 +7,7 @@ use Rattle.lisp_data.specs.Values.{Name}
 use Rattle.lisp_data.specs.SymbolText.{is_symbol_text}
 use Rattle.lisp_data.specs.Atoms.{in_atom, is_delimiter, leaf, is_sign}
 use Rattle.terms.specs.Terms.{Tm, tms}
-use Rattle.terms.specs.Printing.{form_of_term, form_of_arguments}
+use Rattle.term_forms.specs.Printing.{form_of_term, form_of_arguments}
 use Rattle.terms.proofs.Args.{args}
 use Rattle.proof_objects.specs.ProofTrees.{ProofTree, trees}
 use Rattle.proof_objects.specs.declared.rule.Rule.TheVariants.{Hyp, Refl, Replace, Unfold, Eval, Substitute, IfTrue, IfFalse, Cases, Cut, Weaken, Contradict, Axiom, Ring, ImpliesIn, ImpliesOut, Universal, Discharge, Theorem, Instance, Induct}

@@ -9,7 +9,7 @@ use Rattle.lisp_data.specs.FormView.{form_of}
 use Rattle.lisp_data.specs.declared.form.Form.{Form}
 use Rattle.proof_objects.specs.ProofTrees.{ProofTree, trees, depths, depth as depth_of}
 use Rattle.terms.specs.Worlds.{World}
-use Rattle.terms.specs.Translation.{Outcome, and_then}
+use Rattle.term_forms.specs.Translation.{Outcome, and_then}
 use Rattle.terms.proofs.Names.{same_name}
 use Rattle.proof_texts.specs.Items.{items_of, symbol_of}
 use Rattle.proof_texts.specs.Refused.{bad_proof, or_bad, IsRefusal}

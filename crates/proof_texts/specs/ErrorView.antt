@@ -1,7 +1,7 @@
 -- A term's refusal as a proof's.
 use Rattle.std.specs.Prelude.{◌≡◌}
-use Rattle.terms.specs.declared.translation.TermError.{TermError}
-use Rattle.terms.specs.declared.translation.TermError.TheVariants as term
+use Rattle.term_forms.specs.declared.translation.TermError.{TermError}
+use Rattle.term_forms.specs.declared.translation.TermError.TheVariants as term
 use Rattle.proof_texts.specs.declared.errors.ProofError.{ProofError}
 use Rattle.proof_texts.specs.declared.errors.ProofError.TheVariants.{Refused, Memory}
 

@@ -2,13 +2,13 @@
 use Rattle.std.specs.Prelude.{ℕ, ◌^◌, Bool, true, ◌&&◌, not, if◌then◌else◌, pos, negsuc, nat_lt, codes, is_some, List, [], ◌∷◌, ◌++◌, Option, Some, None, Ok}
 use Rattle.lisp_data.specs.Values.{Name}
 use Rattle.lisp_data.specs.Datum.{Datum, IntForm, SymForm, TextForm, PairForm}
-use Rattle.terms.specs.Names.{is_variable_name}
-use Rattle.terms.specs.Outcomes.{each}
+use Rattle.term_forms.specs.Names.{is_variable_name}
+use Rattle.term_forms.specs.Outcomes.{each}
 use Rattle.terms.specs.Primitives.{lookup}
 use Rattle.terms.specs.Substitution.{Pairs}
 use Rattle.terms.specs.Terms.{Tm}
 use Rattle.terms.specs.Worlds.{World, arity}
-use Rattle.terms.specs.Translation.{Outcome, and_then, map_outcome, translate}
+use Rattle.term_forms.specs.Translation.{Outcome, and_then, map_outcome, translate}
 use Rattle.terms.specs.declared.entries.FactName.{FactName}
 use Rattle.terms.specs.declared.entries.FactName.TheVariants.{Theorem, Measure}
 use Rattle.terms.specs.declared.entries.FunPair.{FunPair}

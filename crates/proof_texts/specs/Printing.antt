@@ -4,7 +4,7 @@ use Rattle.lisp_data.specs.Values.{Name}
 use Rattle.lisp_data.specs.Datum.{Datum, IntForm, SymForm, PairForm, chain, nil_form}
 use Rattle.lisp_reader.specs.Printed.{form_text}
 use Rattle.terms.specs.Terms.{Tm}
-use Rattle.terms.specs.Printing.{form_of_term}
+use Rattle.term_forms.specs.Printing.{form_of_term}
 use Rattle.terms.specs.Substitution.{Pairs}
 use Rattle.terms.specs.declared.entries.FactName.{FactName}
 use Rattle.terms.specs.declared.entries.FactName.TheVariants as fact

@@ -5,7 +5,7 @@ use Rattle.lisp_data.specs.Datum.{Datum, IntForm, SymForm, TextForm, PairForm, c
 use Rattle.terms.specs.Terms.{Tm}
 use Rattle.terms.specs.Substitution.{Pairs}
 use Rattle.terms.specs.Worlds.{World}
-use Rattle.terms.specs.Translation.{Outcome, and_then, map_outcome}
+use Rattle.term_forms.specs.Translation.{Outcome, and_then, map_outcome}
 use Rattle.proof_objects.specs.ProofTrees.{ProofTree, By, trees}
 use Rattle.proof_texts.specs.Items.{items_of, symbol_of}
 use Rattle.proof_texts.specs.Refused.{bad_proof, not_built, or_bad}

@@ -1,38 +1,39 @@
 //! Why a text is no proof.
 
-use lisp_data::{Detail, Memory, Symbol, SymbolError};
+use lisp_data::{Code, Detail, Memory, Symbol, SymbolError};
 use std::alloc::Global;
-use terms::TermError;
+use term_forms::TermError;
 
 /// Why a text is no proof (docs/PROOFS.md, "What is refused").
 #[derive(Drop)]
 pub enum ProofError {
-    /// A refusal by its code: 11, 12, 15, 17, 18 or 20.
-    Refused { code: u8, detail: Detail },
+    /// The text is refused (docs/PROOFS.md, "What is refused").
+    Refused { code: Code, detail: Detail },
     Memory,
 }
 
 impl ProofError {
     ghost use Rattle.std.specs.Prelude.{codes};
+    ghost use Rattle.lisp_data.specs.declared.code.Code.TheVariants.{NotAnEvent, BadForm, UnknownName};
     ghost use Rattle.lisp_data.specs.declared.detail.Detail.TheVariants.{Absent, Name};
     ghost use Rattle.proof_texts.specs.Refused.{IsError};
 
     /// The proof has a rule that isn't there yet.
     pub(crate) fn not_built() -> ProofError
-        ensures { IsError 11 Absent result }
+        ensures { IsError NotAnEvent Absent result }
     {
         ProofError::Refused {
-            code: 11,
+            code: Code::NotAnEvent,
             detail: Detail::Absent,
         }
     }
 
     /// The text has another shape than a proof's.
     pub(crate) fn bad_proof(alloc: Global) -> ProofError
-        ensures { IsError 12 (Name (codes ":PROOF")) result }
+        ensures { IsError BadForm (Name (codes ":PROOF")) result }
     {
         match Symbol::new(alloc, ":PROOF") {
-            Ok(key) => ProofError::with_name(12, &key),
+            Ok(key) => ProofError::with_name(Code::BadForm, &key),
             Err(SymbolError::BadText) => unreachable!(),
             Err(SymbolError::Memory) => ProofError::Memory,
         }
@@ -40,12 +41,12 @@ impl ProofError {
 
     /// Nothing of this name is there.
     pub(crate) fn unknown_name(name: &Symbol) -> ProofError
-        ensures { IsError 17 (Name name.now) result }
+        ensures { IsError UnknownName (Name name.now) result }
     {
-        ProofError::with_name(17, name)
+        ProofError::with_name(Code::UnknownName, name)
     }
 
-    fn with_name(code: u8, name: &Symbol) -> ProofError
+    fn with_name(code: Code, name: &Symbol) -> ProofError
         ensures { IsError code (Name name.now) result }
     {
         match name.share() {

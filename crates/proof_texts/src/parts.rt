@@ -2,7 +2,7 @@
 
 ghost use Rattle.std.specs.Prelude.{◌≡◌, [], map, option_map, IfOk, IfSome, IfNone, None};
 ghost use Rattle.lisp_data.specs.FormView.{form_of, IsProper, AllProper};
-ghost use Rattle.terms.specs.Outcomes.{each};
+ghost use Rattle.term_forms.specs.Outcomes.{each};
 ghost use Rattle.terms.specs.Primitives.{lookup};
 ghost use Rattle.proof_texts.specs.Items as items;
 ghost use Rattle.proof_texts.specs.Parts as spec;
@@ -12,9 +12,8 @@ use crate::errors::ProofError;
 use crate::forms::{is_word, items, symbol};
 use lisp_data::{Form, Symbol};
 use std::alloc::Global;
-use terms::{
-    FactName, FunPair, FunPairs, Path, Scope, Subst, Term, Terms, is_variable_name, translate,
-};
+use terms::{ FactName, FunPair, FunPairs, Path, Subst, Term, Terms};
+use term_forms::{Scope, is_variable_name, translate};
 use worlds::World;
 
 /// A term, in which any variable may stand.

@@ -6,7 +6,7 @@ ghost use Rattle.lisp_data.specs.FormView.{form_of, forms_of};
 ghost use Rattle.lisp_data.specs.SymbolText.{is_symbol_text};
 ghost use Rattle.lisp_data.specs.ValueView.{val_of};
 ghost use Rattle.lisp_reader.specs.Printed.{datum_of, IsReadAgain};
-ghost use Rattle.terms.specs.Printing.{form_of_term, form_of_arguments};
+ghost use Rattle.term_forms.specs.Printing.{form_of_term, form_of_arguments};
 ghost use Rattle.terms.specs.Terms.{tms};
 ghost use Rattle.proof_objects.specs.ProofTrees.{trees};
 ghost use Rattle.proof_texts.specs.Given.{seen};

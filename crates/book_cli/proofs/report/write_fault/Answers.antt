@@ -1,7 +1,8 @@
 use Rattle.std.proofs.Common.{◌+◌}
 use Rattle.lisp_data.specs.declared.detail.Detail.TheVariants.{Absent}
-use Rattle.book_cli.specs.declared.refusal.Refusal.TheVariants.{Coded}
-use Rattle.book_cli.specs.Report.{refused_line, last_line}
+use Rattle.events.specs.declared.refusal.Refusal.TheVariants.{Coded}
+use Rattle.events.specs.Lines.{refused_line}
+use Rattle.book_cli.specs.Report.{last_line}
 use Rattle.book_cli.proofs.ReportLemmas.{on_err}
 use Rattle.book_cli.proofs.RunLemmas.{front_first, front_second}
 use Rattle.book_cli.proofs.report.write_fault.Goals as goal

@@ -1,5 +1,5 @@
 use Rattle.std.proofs.Common.{◌≡◌}
-use Rattle.terms.specs.Outcomes.{after}
+use Rattle.term_forms.specs.Outcomes.{after}
 use Rattle.proof_texts.specs.Parts.{term_of}
 use Rattle.proof_texts.proofs.PartLemmas.{each_from}
 use Rattle.proof_texts.proofs.parts.each_term.Given as goal

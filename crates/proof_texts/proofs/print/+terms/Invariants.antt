@@ -1,6 +1,6 @@
 use Rattle.std.proofs.Common.{◌≡◌, ◌+◌, ◌*◌, ◌++◌, drop, map}
 use Rattle.lisp_data.specs.FormView.{forms_of}
-use Rattle.terms.specs.Printing.{form_of_term}
+use Rattle.term_forms.specs.Printing.{form_of_term}
 use Rattle.terms.specs.Terms.{depth, depths, tms}
 use Rattle.proof_texts.proofs.print.+terms.Given as goal
 

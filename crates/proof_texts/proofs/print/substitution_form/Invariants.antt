@@ -1,7 +1,7 @@
 use Rattle.std.proofs.Common.{◌≡◌, ◌++◌, ◌∷◌, [], drop, map}
 use Rattle.lisp_data.specs.Datum.{SymForm}
 use Rattle.lisp_data.specs.FormView.{forms_of}
-use Rattle.terms.specs.Printing.{form_of_term}
+use Rattle.term_forms.specs.Printing.{form_of_term}
 use Rattle.proof_texts.specs.Printing as spec
 use Rattle.proof_texts.proofs.print.substitution_form.Given as goal
 

@@ -1,6 +1,0 @@
-use Rattle.std.proofs.Common.{◌≡◌}
-use Rattle.book_cli.proofs.FormalLemmas.{distinct_from}
-use Rattle.book_cli.proofs.definitions.check_distinct.Given as goal
-
-abbrev pub invariant-loop-i : goal.invariant-loop-i
-invariant-loop-i l = distinct_from l.names l.i ≡ distinct_from l.names 0

@@ -1,0 +1,85 @@
+-- A lawful event that is accepted in a sound world makes a sound world.
+use Rattle.std.proofs.Common.{◌≡◌, Bool, true, false, if◌then◌else◌, List, [], ◌∷◌, Option, Some, None, Ok, Err, refl, ap, sym, ◌∙◌, subst}
+use Rattle.lisp_data.specs.Datum.{Datum}
+use Rattle.terms.specs.Worlds.{World, Each, Holds}
+use Rattle.terms.specs.Sound.{Sound}
+use Rattle.term_forms.specs.Translation.{map_outcome}
+use Rattle.terms.specs.declared.sequent.Sequent.{Sequent}
+use Rattle.terms.proofs.MoreEntries.{with_event}
+use Rattle.proof_objects.specs.ProofTrees.{steps}
+use Rattle.kernel.specs.Concludes.{concludes}
+use Rattle.kernel.specs.declared.errors.RuleName.TheVariants.{Claim}
+use Rattle.events.specs.declared.refusal.Refusal.TheVariants.{ProofWrong}
+use Rattle.plans.specs.declared.plan.Condition.{Condition}
+use Rattle.plans.specs.declared.plan.Plan.{Plan}
+use Rattle.events.specs.declared.clauses.Way.{Way}
+use Rattle.events.specs.declared.clauses.Way.TheVariants.{ByProof}
+use Rattle.plans.specs.Entries.{add_entries}
+use Rattle.events.specs.Redundancy.{is_redundant}
+use Rattle.events.specs.Frames.{Judged, coded, goes_on, Clauses, Frame}
+use Rattle.events.specs.Verdicts.{Accepted, Redundant, new_names, of_conditions, way_by, clause_of, ways, by_conclusion, by_way, all_proved, proved, checked, made, ended}
+use Rattle.events.specs.Laws.{IsLawful, AcceptedIsSound}
+use Rattle.events.proofs.Inversions.{then_ok, map_ok, goes_ok, coded_ok}
+use Rattle.plans.specs.Proving.{proves}
+use Rattle.plans.proofs.EntriesSound.{entries_keep_sound}
+use Rattle.plans.proofs.ProvedHold.{proved_conditions_hold}
+
+module _ (W : World) (sound : Sound W) where
+  condition_holds : (c : Condition) (w : Way) → by_way W c w ≡ Ok (tt {0}) → Holds W.functions c.sequent
+  condition_holds c (ByProof p) e = by_end (concludes W p) refl e
+    where
+      by_test : (s : Sequent) (b : Bool) → proves s c.sequent ≡ b → concludes W p ≡ Some s → (if b then Ok (tt {0}) else Err (ProofWrong c.name (steps p) Claim)) ≡ Ok (tt {0}) → Holds W.functions c.sequent
+      by_test s true q is e' = proved_conditions_hold W sound c.sequent s p is q
+      by_test s false q is e' = absurd (cc)
+
+      by_end : (o : Option Sequent) → concludes W p ≡ o → by_conclusion W c p o ≡ Ok (tt {0}) → Holds W.functions c.sequent
+      by_end None is e' = absurd (cc)
+      by_end (Some s) is e' = by_test s (proves s c.sequent) refl is e'
+
+  pub conditions_hold : (clauses : Clauses) (cs : List Condition) (ws : List Way) → ways W.functions clauses cs ≡ Ok ws → all_proved W cs ws ≡ Ok (tt {0}) → Each (λ c. Holds W.functions c.sequent) cs
+  conditions_hold clauses [] ws e h = tt
+  conditions_hold clauses (c ∷ cs) ws e h =
+      let p = then_ok (way_by W.functions (clause_of clauses.proofs c.name)) (λ w. map_outcome (λ ws. w ∷ ws) (ways W.functions clauses cs)) ws e in
+      let q = map_ok (ways W.functions clauses cs) (λ ws. p.0 ∷ ws) ws p.2 in
+      let g = goes_ok (by_way W c p.0) (λ _. all_proved W cs q.0) tt (subst (λ ws. all_proved W (c ∷ cs) ws ≡ Ok (tt {0})) (sym q.2) h) in
+      (condition_holds c p.0 g.1, conditions_hold clauses cs q.0 q.1 g.2)
+
+  -- the plan of an event whose conditions are proved
+  proved_plan : (clauses : Clauses) (p q : Plan) → proved W clauses p ≡ Ok q → (p ≡ q) × Each (λ c. Holds W.functions c.sequent) p.conditions
+  proved_plan clauses p q e =
+      let a = goes_ok (coded (of_conditions p.conditions clauses)) (λ _. goes_on (coded (ways W.functions clauses p.conditions)) (λ ws. goes_on (all_proved W p.conditions ws) (λ _. Ok p))) q e in
+      let b = goes_ok (coded (ways W.functions clauses p.conditions)) (λ ws. goes_on (all_proved W p.conditions ws) (λ _. Ok p)) q a.2 in
+      let d = goes_ok (all_proved W p.conditions b.0) (λ _. Ok p) q b.2 in
+      let same : p ≡ q = cc in
+      (same, conditions_hold clauses p.conditions b.0 (coded_ok (ways W.functions clauses p.conditions) b.0 b.1) d.1)
+
+  pub record IsPlanned (e : Frame) (p : Plan) : Type 0 where
+    pub names : new_names W [] e.names ≡ Ok (tt {0})
+    pub plan : e.plan W ≡ Ok p
+    pub hold : Each (λ c. Holds W.functions c.sequent) p.conditions
+
+  pub checked_plan : (e : Frame) (p : Plan) → checked W e ≡ Ok p → IsPlanned e p
+  checked_plan e p h =
+      let a = goes_ok (coded (new_names W [] e.names)) (λ _. goes_on (e.plan W) (proved W e.clauses)) p h in
+      let b = goes_ok (e.plan W) (proved W e.clauses) p a.2 in
+      let d = proved_plan e.clauses b.0 p b.2 in
+      record {
+        names = coded_ok (new_names W [] e.names) tt a.1;
+        plan = b.1 ∙ ap Ok d.0;
+        hold = subst (λ p. Each (λ c. Holds W.functions c.sequent) p.conditions) d.0 d.1;
+      }
+
+  by_end : (form : Datum) (e : Frame) → IsLawful e → (next : World) (o : Judged Plan) → checked W e ≡ o → ended W form o ≡ Accepted next → Sound next
+  by_end form e lawful next (Err why) is h = absurd (cc)
+  by_end form e lawful next (Ok p) is h =
+      let same : made W form p ≡ next = cc in
+      let c = checked_plan e p is in
+      let l = lawful W sound c.names p c.plan in
+      subst Sound same (with_event (add_entries p.entries W) (entries_keep_sound W sound p.entries (l.takes c.hold (l.before c.hold) (l.after c.hold))) form)
+
+pub accepted_is_sound : AcceptedIsSound
+accepted_is_sound W sound form e lawful next h = by_redundant (is_redundant W form e.repeats) h
+  where
+    by_redundant : (b : Bool) → (if b then Redundant else ended W form (checked W e)) ≡ Accepted next → Sound next
+    by_redundant true h' = absurd (cc)
+    by_redundant false h' = by_end W sound form e lawful next (checked W e) refl h'

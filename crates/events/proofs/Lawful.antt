@@ -1,0 +1,76 @@
+-- Each event is lawful.
+use Rattle.std.proofs.Common.{◌≡◌, ℕ, ◌+◌, true, List, [], ◌∷◌, Option, Ok, refl, sym, subst}
+use Rattle.lisp_data.specs.Values.{Name}
+use Rattle.lisp_data.specs.Datum.{Datum}
+use Rattle.terms.specs.Worlds.{World, Each, Holds, arity}
+use Rattle.terms.specs.Measures.{obligations}
+use Rattle.terms.specs.Formed.{IsWellFormed}
+use Rattle.term_forms.specs.Translation.{map_outcome, translate}
+use Rattle.term_forms.specs.TranslationLaws.{TranslatedTermsFit}
+use Rattle.terms.specs.declared.definition.Definition.{Definition}
+use Rattle.terms.specs.declared.sequent.Sequent.{Sequent}
+use Rattle.worlds.specs.Names.{is_free}
+use Rattle.event_forms.specs.ProofTexts.{any}
+use Rattle.plans.specs.declared.plan.Plan.{Plan}
+use Rattle.plans.specs.Entries.{AdmitsAll}
+use Rattle.plans.specs.Plans.{no_plan, ConditionsHold, HoldBefore, HoldAfter, IsLawfulPlan}
+use Rattle.events.specs.Definitions.{new_name, definition_of}
+use Rattle.events.specs.Frames.{Frame}
+use Rattle.events.specs.Defun.{defun, decreases, measure_conditions, function_plan}
+use Rattle.events.specs.Defthm.{defthm, theorem_plan}
+use Rattle.events.specs.Verdicts.{name_after, new_names}
+use Rattle.events.specs.Laws.{IsLawful}
+use Rattle.events.proofs.Inversions.{then_ok, map_ok, coded_ok}
+use Rattle.events.proofs.WellFormed.{takeable, formula_fits, name_is_free}
+
+-- the one new name of an event is free
+one_name : (W : World) (n : Name) → new_names W [] (n ∷ []) ≡ Ok (tt {0}) → is_free W n ≡ true
+unfolding name_after
+one_name W n e = name_is_free W n (then_ok (new_name W n) (λ _. Ok (tt {0})) tt e).1
+
+each_decrease : (P : Sequent → Type 0) (k : ℕ) (ss : List Sequent) → Each (λ c. P c.sequent) (decreases k ss) → Each P ss
+each_decrease P k [] h = tt
+each_decrease P k (s ∷ ss) h = (h.0, each_decrease P (k + 1) ss h.1)
+
+each_owed : (P : Sequent → Type 0) (ss : List Sequent) → Each (λ c. P c.sequent) (measure_conditions ss) → Each P ss
+each_owed P [] h = tt
+each_owed P (s ∷ ss) h = (h.0, each_decrease P 1 ss h.1)
+
+-- a plan without claims is lawful where the world can take its entries once its conditions hold
+direct : (W : World) (p : Plan) → HoldBefore W p → HoldAfter W p → (ConditionsHold W p → AdmitsAll W p.entries) → IsLawfulPlan W p
+direct W p b a f = record { before = λ _. b; after = λ _. a; takes = λ h _ _. f h }
+
+-- an event that makes nothing
+pub lawful_nothing : (e : Frame) → ((W : World) → e.plan W ≡ Ok no_plan) → IsLawful e
+lawful_nothing e nothing W sound names p is =
+    let same : no_plan ≡ p = cc (nothing W) in
+    subst (IsLawfulPlan W) same (direct W no_plan tt tt (λ _. tt))
+
+-- a definition that is well formed, also where it is recursive
+lawful_definition : (W : World) (d : Definition) → is_free W d.name ≡ true → IsWellFormed W.functions d → IsLawfulPlan W (function_plan d)
+lawful_definition W d free ok =
+    direct W (function_plan d) tt tt (λ hold. (record { free = free; well_formed = ok; owed = each_owed (Holds W.functions) (obligations d) hold }, tt))
+
+module _ (fit : TranslatedTermsFit) where
+  pub lawful_defun : (f : Name) (formals : List Datum) (body : Datum) → IsLawful (defun f formals body)
+  lawful_defun f formals body W sound names p e =
+      let free = one_name W f names in
+      let m = map_ok (definition_of W f formals body) function_plan p (coded_ok (map_outcome function_plan (definition_of W f formals body)) p e) in
+      let t = takeable fit W sound f free formals body m.0 m.1 in
+      subst (IsLawfulPlan W) m.2 (lawful_definition W m.0 (subst (λ n. is_free W n ≡ true) (sym t.named) free) t.well_formed)
+
+  pub lawful_defthm : (n : Name) (formula : Datum) (proof : Option Datum) → IsLawful (defthm n formula proof)
+  lawful_defthm n formula proof W sound names p e =
+      let o = translate (arity W.functions) any formula in
+      let m = map_ok o (theorem_plan n) p (coded_ok (map_outcome (theorem_plan n) o) p e) in
+      subst (IsLawfulPlan W) m.2 (direct W (theorem_plan n m.0) tt tt (λ hold. (
+        (
+          one_name W n names,
+          record {
+            no_hyps = refl;
+            fits = record { universals = tt; hyps = tt; goal = formula_fits fit W sound formula m.0 m.1 };
+            holds = hold.0;
+          },
+        ),
+        tt,
+      )))

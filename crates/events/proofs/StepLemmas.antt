@@ -1,0 +1,92 @@
+-- The answers to events.
+use Rattle.std.proofs.Common.{codes, ◌≡◌, ℕ, Bool, true, false, List, [], ◌∷◌, Result, Ok, Err, if◌then◌else◌, refl, ap, sym, ◌∙◌, subst}
+use Rattle.std.specs.Result.{IsErr, IsErrAnd}
+use Rattle.lisp_data.specs.Values.{Name}
+use Rattle.lisp_data.specs.Datum.{Datum}
+use Rattle.lisp_data.specs.RefusalCodes.{number}
+use Rattle.lisp_data.specs.declared.code.Code.TheVariants.{NotAnEvent}
+use Rattle.lisp_data.specs.declared.detail.Detail.{Detail}
+use Rattle.lisp_data.specs.declared.detail.Detail.TheVariants.{Absent}
+use Rattle.terms.specs.Terms.{Tm}
+use Rattle.terms.specs.Measures.{mentions}
+use Rattle.terms.specs.Worlds.{World}
+use Rattle.term_forms.specs.Translation.{Outcome, and_then}
+use Rattle.term_forms.specs.TranslationView.{SaysOutcome}
+use Rattle.term_forms.specs.declared.translation.TermError.{TermError}
+use Rattle.term_forms.specs.declared.translation.TermError.TheVariants as term
+use Rattle.event_forms.specs.Refused.{not_an_event}
+use Rattle.event_forms.specs.Shapes.{Event, event_of}
+use Rattle.events.specs.Definitions.{unless_recursive}
+use Rattle.events.specs.Halts.{IsCoded, IsRefusal, IsFromTerm, Reads, Answers}
+use Rattle.events.specs.Lines.{text_of, refused_line}
+use Rattle.events.specs.Refusals.{refusal_code}
+use Rattle.events.specs.Steps.{IsStep}
+use Rattle.events.specs.Verdicts as verdict
+use Rattle.events.specs.declared.refusal.Refusal.{Refusal}
+use Rattle.events.specs.declared.refusal.Refusal.TheVariants.{Coded, ProofWrong, AtNode}
+use Rattle.events.specs.declared.halt.Halt.{Halt}
+use Rattle.events.specs.declared.halt.Halt.TheVariants.{Refused, Memory}
+use Rattle.events.specs.declared.steps.StepAnswer.{StepAnswer}
+use Rattle.events.specs.declared.steps.StepAnswer.TheVariants as answer
+
+-- an error is the refusal of an outcome
+pub coded_refusal : {A : Type 0} (o : Outcome A) (code : ℕ) (d : Detail) (h : Halt) → IsCoded code d h → o ≡ Err (code, d) → IsRefusal o h
+coded_refusal o code d (Refused why) is same = subst (λ w. IsRefusal o (Refused w)) (sym is) same
+coded_refusal o code d Memory is same = tt
+
+-- a term's error is the refusal of what goes on with the term
+pub term_refusal : {A : Type 0} (o : Outcome Tm) (k : Tm → Outcome A) (t : TermError) (h : Halt) → SaysOutcome {A = Tm} o (Err t) → IsFromTerm t h → IsRefusal (and_then o k) h
+term_refusal o k (term.Refused code d) h e is = subst (IsRefusal (and_then o k)) (sym is) (ap (λ p. and_then p k) e)
+term_refusal o k term.Memory h e is = subst (IsRefusal (and_then o k)) (sym is) tt
+
+pub by_error : {A B : Type 0} (seen : A → B) (o : Outcome B) (r : Result A Halt) (P : Halt → Type 0) → IsErr r × IsErrAnd r P → ((h : Halt) → P h → IsRefusal o h) → Reads seen o r
+by_error seen o (Ok x) P h f = absurd h.1
+by_error seen o (Err e) P h f = f e h.1
+
+-- a body that calls the function itself, and one that doesn't
+module _ (o : Outcome Tm) (f : Name) (t : Tm) (calls : Bool) (is : o ≡ Ok t) (test : calls ≡ mentions f t) where
+  goes_on : and_then o (unless_recursive f) ≡ (if calls then not_an_event else Ok t)
+  goes_on = ap (λ p. and_then p (unless_recursive f)) is ∙ ap (λ b. if b then not_an_event else Ok t) (sym test)
+
+  pub recursive_body : calls ≡ true → (h : Halt) → IsCoded (number NotAnEvent) Absent h → IsRefusal (and_then o (unless_recursive f)) h
+  recursive_body is_true h coded =
+      coded_refusal (and_then o (unless_recursive f)) (number NotAnEvent) Absent h coded (goes_on ∙ ap (λ b. if b then not_an_event else Ok t) is_true)
+
+  pub flat_body : calls ≡ false → and_then o (unless_recursive f) ≡ Ok t
+  flat_body is_false = goes_on ∙ ap (λ b. if b then not_an_event else Ok t) is_false
+
+module _ (W : World) (form : Datum) (place index : ℕ) where
+  -- an answer that is no refusal
+  pub stepped : (a : StepAnswer) → Answers W form (event_of form) (Ok a) → IsStep W form place index a
+  stepped a h = by_shape_of (event_of form) refl a h
+    where
+      by_shape_of : (o : Outcome Event) → event_of form ≡ o → (a : StepAnswer) → Answers W form o (Ok a) → IsStep W form place index a
+      by_shape_of (Ok event) is (answer.Accepted next lines proofs) h = record {
+        event = event;
+        is_event = is;
+        plan = h.plan;
+        is_plan = h.is_plan;
+        verdict_is = ap (verdict.by_shape W form) is ∙ h.verdict_is;
+        lines_are = h.lines_are ∙ ap (λ o. text_of (codes "ok ") o ∷ []) (sym is);
+        proved = h.proved;
+      }
+      by_shape_of (Ok event) is (answer.Redundant lines) h = record {
+        verdict_is = ap (verdict.by_shape W form) is ∙ h.0;
+        lines_are = h.1 ∙ ap (λ o. text_of (codes "redundant ") o ∷ []) (sym is);
+      }
+      by_shape_of (Ok event) is (answer.Printed lines) h = absurd h
+      by_shape_of (Ok event) is (answer.Refused code lines) h = absurd h
+      by_shape_of (Err e) is a h = absurd h
+
+  -- a refusal is the verdict's
+  pub refused : (why : Refusal) → Answers W form (event_of form) (Err (Refused why)) → verdict.verdict W form ≡ verdict.Refused why
+  refused why h = by_shape_of (event_of form) refl why h
+    where
+      by_shape_of : (o : Outcome Event) → event_of form ≡ o → (why : Refusal) → Answers W form o (Err (Refused why)) → verdict.verdict W form ≡ verdict.Refused why
+      by_shape_of (Ok event) is why h = ap (verdict.by_shape W form) is ∙ h
+      by_shape_of (Err e) is (Coded code detail) h = ap (verdict.by_shape W form) (is ∙ h)
+      by_shape_of (Err e) is (ProofWrong condition node rule) h = absurd h
+      by_shape_of (Err e) is (AtNode code condition node) h = absurd h
+
+  pub refused_step : (why : Refusal) (code : ℕ) (lines : List (List ℕ)) → Answers W form (event_of form) (Err (Refused why)) → code ≡ refusal_code why → lines ≡ refused_line index why place ∷ [] → IsStep W form place index (answer.Refused code lines)
+  refused_step why code lines h code_is lines_are = record { why = why; verdict_is = refused why h; code_is = code_is; lines_are = lines_are }

@@ -1,0 +1,154 @@
+-- What the calls that handle an event answer.
+use Rattle.std.specs.Prelude.{◌≡◌, ℕ, true, codes, List, [], ◌∷◌, ◌++◌, Result, Ok, Err}
+use Rattle.lisp_data.specs.FormView.{form_of, IsProper}
+use Rattle.lisp_data.specs.Datum.{Datum}
+use Rattle.lisp_data.specs.Values.{Name}
+use Rattle.lisp_data.specs.declared.detail.Detail.{Detail}
+use Rattle.terms.specs.Worlds.{World}
+use Rattle.term_forms.specs.Translation.{Outcome, map_outcome}
+use Rattle.term_forms.specs.declared.translation.TermError.{TermError}
+use Rattle.term_forms.specs.declared.translation.TermError.TheVariants as term
+use Rattle.kernel.specs.Conclusion.{Conclusion}
+use Rattle.kernel.specs.declared.errors.RuleName.{RuleName}
+use Rattle.event_forms.specs.Shapes.{Event}
+use Rattle.event_forms.specs.declared.errors.EventError.{EventError}
+use Rattle.event_forms.specs.declared.errors.EventError.TheVariants as event
+use Rattle.plans.specs.declared.plan.Condition.{Condition}
+use Rattle.plans.specs.declared.plan.Plan.{Plan}
+use Rattle.plans.specs.Entries.{add_entries}
+use Rattle.plans.specs.Proving.{proves, sequents, ProvesAll, AreProofs}
+use Rattle.events.specs.declared.refusal.Refusal.TheVariants.{Coded, ProofWrong}
+use Rattle.events.specs.declared.halt.Halt.{Halt}
+use Rattle.events.specs.declared.halt.Halt.TheVariants.{Refused, Memory}
+use Rattle.events.specs.declared.clauses.Clauses.{Clauses}
+use Rattle.events.specs.declared.clauses.Clauses.TheVariants.{NoClauses, Goal}
+use Rattle.events.specs.declared.clauses.Way.{Way}
+use Rattle.events.specs.declared.handle.Made.{Made}
+use Rattle.events.specs.declared.redundancy.Repeats.{Repeats}
+use Rattle.events.specs.declared.redundancy.Repeats.TheVariants.{Never, AsForm, AsTheorem}
+use Rattle.events.specs.declared.steps.StepAnswer.{StepAnswer}
+use Rattle.events.specs.declared.steps.StepAnswer.TheVariants as answer
+use Rattle.events.specs.Frames as frames
+use Rattle.events.specs.Frames.{Judged, Frame}
+use Rattle.events.specs.Kinds.{frame_of}
+use Rattle.events.specs.Verdicts as verdict
+use Rattle.events.specs.Verdicts.{by_way, all_proved, checked, verdict_of}
+use Rattle.events.specs.Lines.{event_text}
+use Rattle.events.specs.declared.handle.EventProofs.{EventProofs}
+
+-- the refusal has this code and this detail, or it is want of memory
+abbrev pub IsCoded : ℕ → Detail → Halt → Type 0
+IsCoded code detail (Refused why) = why ≡ Coded code detail
+IsCoded code detail Memory = Unit {0}
+
+-- a condition's proof is wrong, or it is want of memory
+abbrev pub IsWrong : Name → ℕ → RuleName → Halt → Type 0
+IsWrong condition node rule (Refused why) = why ≡ ProofWrong condition node rule
+IsWrong condition node rule Memory = Unit {0}
+
+-- an error is the outcome's refusal, or want of memory
+abbrev pub IsRefusal : {A : Type 0} → Outcome A → Halt → Type 0
+IsRefusal o (Refused (Coded code detail)) = o ≡ Err (code, detail)
+IsRefusal o (Refused _) = ⊥
+IsRefusal o Memory = Unit {0}
+
+-- the answer is the outcome's: what is read, as it is seen, or its refusal
+abbrev pub Reads : {A B : Type 0} → (A → B) → Outcome B → Result A Halt → Type 0
+Reads seen o (Ok x) = o ≡ Ok (seen x)
+Reads seen o (Err e) = IsRefusal o e
+
+-- the answer is what was judged, as it is seen, or its refusal
+abbrev pub Says : {A B : Type 0} → (A → B) → Judged B → Result A Halt → Type 0
+Says seen o (Ok x) = o ≡ Ok (seen x)
+Says seen o (Err (Refused why)) = o ≡ Err why
+Says seen o (Err Memory) = Unit {0}
+
+-- an error of a form or a term, as what ends the handling of its event
+abbrev pub IsFromEvent : EventError → Halt → Type 0
+IsFromEvent (event.Refused code detail) e = e ≡ Refused (Coded code detail)
+IsFromEvent event.Memory e = e ≡ Memory
+
+abbrev pub IsFromTerm : TermError → Halt → Type 0
+IsFromTerm (term.Refused code detail) e = e ≡ Refused (Coded code detail)
+IsFromTerm term.Memory e = e ≡ Memory
+
+-- what the code's clauses are seen as
+abbrev pub clauses_seen : Clauses → frames.Clauses
+clauses_seen NoClauses = frames.no_clauses
+clauses_seen (Goal text) = record { proofs = (codes ":GOAL", form_of text.now) ∷ [] }
+
+abbrev pub AreProper : Clauses → Type 0
+AreProper NoClauses = Unit {0}
+AreProper (Goal text) = IsProper text.now
+
+-- what the code's word on redundancy is seen as
+abbrev pub repeats_seen : Repeats → frames.Repeats
+repeats_seen Never = frames.Never
+repeats_seen AsForm = frames.AsForm
+repeats_seen (AsTheorem name formula) = frames.AsTheorem name.now (form_of formula.now)
+
+abbrev pub HasProperFormula : Repeats → Type 0
+HasProperFormula Never = Unit {0}
+HasProperFormula AsForm = Unit {0}
+HasProperFormula (AsTheorem name formula) = IsProper formula.now
+
+-- more, behind what there is
+abbrev pub joined : {A : Type 0} → List A → Outcome (List A) → Outcome (List A)
+joined xs o = map_outcome (λ ys. xs ++ ys) o
+
+-- what an accepted event makes by its plan, in which it isn't kept yet
+pub record IsMade (W : World) (p : Plan) (made : Made) : Type 0 where
+  pub world : made.world ≡ add_entries p.entries W
+  pub proved : AreProofs W p made.proofs.before made.proofs.after
+
+-- the answer is the plan that was judged: what it makes, or its refusal
+abbrev pub Judges : World → Judged Plan → Result Made Halt → Type 0
+Judges W o (Ok made) = (p : Plan) × (o ≡ Ok p) × IsMade W p made
+Judges W o (Err (Refused why)) = o ≡ Err why
+Judges W o (Err Memory) = Unit {0}
+
+-- the condition is proved in the world
+pub record IsProvedOne (W : World) (c : Condition) (w : Way) (it : Conclusion) : Type 0 where
+  pub world : it.world ≡ W
+  pub proves : proves it.sequent c.sequent ≡ true
+  pub accepted : by_way W c w ≡ Ok tt
+
+abbrev pub ProvesOne : World → Condition → Way → Result Conclusion Halt → Type 0
+ProvesOne W c w (Ok it) = IsProvedOne W c w it
+ProvesOne W c w (Err (Refused why)) = by_way W c w ≡ Err why
+ProvesOne W c w (Err Memory) = Unit {0}
+
+-- the conditions are proved, with these proofs behind those that there were
+pub record AreProvedAfter (W : World) (cs : List Condition) (ws : List Way) (old new : List Conclusion) : Type 0 where
+  pub further : List Conclusion
+  pub joined : new ≡ old ++ further
+  pub accepted : all_proved W cs ws ≡ Ok tt
+  pub proofs : ProvesAll W (sequents cs) further
+
+abbrev pub ProvesAfter : World → List Condition → List Way → List Conclusion → Result (List Conclusion) Halt → Type 0
+ProvesAfter W cs ws old (Ok new) = AreProvedAfter W cs ws old new
+ProvesAfter W cs ws old (Err (Refused why)) = all_proved W cs ws ≡ Err why
+ProvesAfter W cs ws old (Err Memory) = Unit {0}
+
+-- an accepted event makes this world, and has this line and these proofs
+pub record IsTaken (W : World) (form : Datum) (e : Frame) (next : World) (lines : List (List ℕ)) (proofs : EventProofs) : Type 0 where
+  pub plan : Plan
+  pub is_plan : checked W e ≡ Ok plan
+  pub verdict_is : verdict_of W form e ≡ verdict.Accepted next
+  pub lines_are : lines ≡ event_text (codes "ok ") e ∷ []
+  pub proved : AreProofs W plan proofs.before proofs.after
+
+-- the answer to an event is its verdict's, with its line; a refusal has none yet
+abbrev pub Handles : World → Datum → Frame → Result StepAnswer Halt → Type 0
+Handles W form e (Ok (answer.Accepted next lines proofs)) = IsTaken W form e next lines proofs
+Handles W form e (Ok (answer.Redundant lines)) = (verdict_of W form e ≡ verdict.Redundant) × (lines ≡ event_text (codes "redundant ") e ∷ [])
+Handles W form e (Ok (answer.Printed lines)) = ⊥
+Handles W form e (Ok (answer.Refused code lines)) = ⊥
+Handles W form e (Err (Refused why)) = verdict_of W form e ≡ verdict.Refused why
+Handles W form e (Err Memory) = Unit {0}
+
+-- the same of the form of an event; a form of another shape is refused
+abbrev pub Answers : World → Datum → Outcome Event → Result StepAnswer Halt → Type 0
+Answers W form (Ok event) r = Handles W form (frame_of event) r
+Answers W form (Err e) (Ok a) = ⊥
+Answers W form (Err e) (Err h) = IsRefusal {A = Event} (Err e) h

@@ -1,0 +1,13 @@
+-- `in-package`, which makes nothing and may stand again.
+use Rattle.std.specs.Prelude.{[], codes, Ok}
+use Rattle.plans.specs.Plans.{no_plan}
+use Rattle.events.specs.Frames.{Frame, Never, no_clauses}
+
+abbrev pub in_package : Frame
+in_package = record {
+  title = codes "in-package ACL2";
+  names = [];
+  repeats = Never;
+  clauses = no_clauses;
+  plan = λ W. Ok no_plan;
+}

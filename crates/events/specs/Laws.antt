@@ -1,0 +1,25 @@
+-- The laws of events.
+use Rattle.std.specs.Prelude.{◌≡◌, ℕ, ◌+◌, List, [], length, Ok}
+use Rattle.lisp_data.specs.Datum.{Datum}
+use Rattle.terms.specs.Worlds.{World}
+use Rattle.terms.specs.Sound.{Sound}
+use Rattle.plans.specs.declared.plan.Plan.{Plan}
+use Rattle.plans.specs.Plans.{IsLawfulPlan}
+use Rattle.events.specs.declared.handle.EventProofs.{EventProofs}
+use Rattle.events.specs.Frames.{Frame}
+use Rattle.events.specs.Verdicts.{Accepted, new_names, verdict_of}
+use Rattle.events.specs.Steps.{IsAccepted}
+
+-- each plan that the event has in a sound world where its names are new is lawful
+abbrev pub IsLawful : Frame → Type 0
+IsLawful e = (W : World) → Sound W → new_names W [] e.names ≡ Ok tt → (p : Plan) → e.plan W ≡ Ok p → IsLawfulPlan W p
+
+-- a lawful event that is accepted in a sound world makes a sound world
+abbrev pub AcceptedIsSound : Type 0
+AcceptedIsSound = (W : World) → Sound W → (form : Datum) (e : Frame) → IsLawful e → (next : World) → verdict_of W form e ≡ Accepted next → Sound next
+
+-- an accepted event has one proof for each of its conditions and claims
+abbrev pub ProofForEach : Type 0
+ProofForEach =
+    (W : World) (form : Datum) (next : World) (lines : List (List ℕ)) (proofs : EventProofs) → (a : IsAccepted W form next lines proofs) →
+    (length proofs.before ≡ length a.plan.conditions + length a.plan.before) × (length proofs.after ≡ length a.plan.after)

@@ -1,0 +1,14 @@
+pub mod Definitions
+pub mod Frames
+pub mod InPackage
+pub mod IncludeBook
+pub mod Defun
+pub mod Defthm
+pub mod Kinds
+pub mod Redundancy
+pub mod Verdicts
+pub mod Refusals
+pub mod Lines
+pub mod Steps
+pub mod Halts
+pub mod Laws

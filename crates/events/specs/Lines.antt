@@ -1,0 +1,29 @@
+-- The lines of events.
+use Rattle.std.specs.Prelude.{ℕ, List, [], ◌++◌, Ok, Err, codes}
+use Rattle.std.specs.Fmt.{decimal}
+use Rattle.lisp_data.specs.Datum.{Datum}
+use Rattle.term_forms.specs.Translation.{Outcome}
+use Rattle.event_forms.specs.Shapes.{Event, event_of}
+use Rattle.events.specs.declared.refusal.Refusal.{Refusal}
+use Rattle.events.specs.Frames.{Frame}
+use Rattle.events.specs.Kinds.{frame_of}
+use Rattle.events.specs.Refusals.{refusal_text}
+
+-- the line of an event, which begins with a word on what became of it
+abbrev pub event_text : List ℕ → Frame → List ℕ
+event_text begin e = begin ++ (e.title ++ codes "\n")
+
+-- such a line is written of events alone
+abbrev pub text_of : List ℕ → Outcome Event → List ℕ
+text_of begin (Ok event) = event_text begin (frame_of event)
+text_of begin (Err e) = []
+
+abbrev pub ok_line : Datum → List ℕ
+ok_line form = text_of (codes "ok ") (event_of form)
+
+abbrev pub redundant_line : Datum → List ℕ
+redundant_line form = text_of (codes "redundant ") (event_of form)
+
+-- events are counted from 1, and places from 0
+abbrev pub refused_line : ℕ → Refusal → ℕ → List ℕ
+refused_line index why place = codes "refused " ++ (decimal index ++ (codes " " ++ (refusal_text why ++ (codes " at " ++ (decimal place ++ codes "\n")))))

@@ -1,0 +1,45 @@
+-- What the handling of one event answers.
+use Rattle.std.specs.Prelude.{◌≡◌, ℕ, List, [], ◌∷◌, Ok}
+use Rattle.lisp_data.specs.Datum.{Datum}
+use Rattle.terms.specs.Worlds.{World}
+use Rattle.event_forms.specs.Shapes.{Event, event_of}
+use Rattle.plans.specs.declared.plan.Plan.{Plan}
+use Rattle.plans.specs.Proving.{AreProofs}
+use Rattle.events.specs.declared.refusal.Refusal.{Refusal}
+use Rattle.events.specs.declared.handle.EventProofs.{EventProofs}
+use Rattle.events.specs.declared.steps.StepAnswer.{StepAnswer}
+use Rattle.events.specs.declared.steps.StepAnswer.TheVariants as answer
+use Rattle.events.specs.Kinds.{frame_of}
+use Rattle.events.specs.Verdicts.{Accepted, Redundant, Refused, checked, verdict}
+use Rattle.events.specs.Refusals.{refusal_code}
+use Rattle.events.specs.Lines.{ok_line, redundant_line, refused_line}
+
+-- An accepted event makes this world and has this line. Each condition of its plan, and each of the plan's claims, is proved: in order, those
+-- of the world before it, and those of the world with its functions.
+pub record IsAccepted (W : World) (form : Datum) (next : World) (lines : List (List ℕ)) (proofs : EventProofs) : Type 0 where
+  pub event : Event
+  pub is_event : event_of form ≡ Ok event
+  pub plan : Plan
+  pub is_plan : checked W (frame_of event) ≡ Ok plan
+  pub verdict_is : verdict W form ≡ Accepted next
+  pub lines_are : lines ≡ ok_line form ∷ []
+  pub proved : AreProofs W plan proofs.before proofs.after
+
+-- an event that was accepted before has this line
+pub record IsRedundant (W : World) (form : Datum) (lines : List (List ℕ)) : Type 0 where
+  pub verdict_is : verdict W form ≡ Redundant
+  pub lines_are : lines ≡ redundant_line form ∷ []
+
+-- a refused event has this code and this line
+pub record IsRefused (W : World) (form : Datum) (place index code : ℕ) (lines : List (List ℕ)) : Type 0 where
+  pub why : Refusal
+  pub verdict_is : verdict W form ≡ Refused why
+  pub code_is : code ≡ refusal_code why
+  pub lines_are : lines ≡ refused_line index why place ∷ []
+
+-- the answer is the verdict's; no value is printed as yet
+abbrev pub IsStep : World → Datum → ℕ → ℕ → StepAnswer → Type 0
+IsStep W form place index (answer.Accepted next lines proofs) = IsAccepted W form next lines proofs
+IsStep W form place index (answer.Redundant lines) = IsRedundant W form lines
+IsStep W form place index (answer.Printed lines) = ⊥
+IsStep W form place index (answer.Refused code lines) = IsRefused W form place index code lines

@@ -1,0 +1,104 @@
+//! What ends the handling of an event.
+
+use crate::refusal::Refusal;
+use event_forms::EventError;
+use lisp_data::{Code, Detail, Symbol};
+use lists::{Memory, Text};
+use std::alloc::Global;
+use term_forms::TermError;
+
+/// What ends the handling of an event.
+#[derive(Drop)]
+pub enum Halt {
+    Refused(Refusal),
+    Memory,
+}
+
+impl Halt {
+    ghost use Rattle.lisp_data.specs.declared.detail.Detail.TheVariants.{Absent, Name, Word};
+    ghost use Rattle.lisp_data.specs.RefusalCodes.{number};
+    ghost use Rattle.lisp_data.specs.declared.code.Code.TheVariants.{NotAnEvent, BadForm};
+    ghost use Rattle.events.specs.Halts.{IsCoded};
+
+    /// The event isn't there yet.
+    pub(crate) fn not_an_event() -> Halt
+        ensures { IsCoded (number NotAnEvent) Absent result }
+    {
+        Halt::Refused(Refusal::Coded {
+            code: Code::NotAnEvent.number(),
+            detail: Detail::Absent,
+        })
+    }
+
+    /// A part of an event has another shape.
+    pub(crate) fn bad_part(alloc: Global, word: &str) -> Halt
+        ensures { IsCoded (number BadForm) (Word word.now) result }
+    {
+        Halt::word(alloc, Code::BadForm.number(), word)
+    }
+
+    /// A word is refused, by its code.
+    pub(crate) fn word(alloc: Global, code: u8, word: &str) -> Halt
+        ensures { IsCoded code (Word word.now) result }
+    {
+        match Text::from_slice(alloc, word.as_bytes()) {
+            Ok(word) => Halt::Refused(Refusal::Coded {
+                code,
+                detail: Detail::Word(word),
+            }),
+            Err(Memory) => Halt::Memory,
+        }
+    }
+
+    /// A name is refused, by its code.
+    pub(crate) fn named(code: u8, name: &Symbol) -> Halt
+        ensures { IsCoded code (Name name.now) result }
+    {
+        match name.share() {
+            Ok(name) => Halt::Refused(Refusal::Coded {
+                code,
+                detail: Detail::Name(name),
+            }),
+            Err(Memory) => Halt::Memory,
+        }
+    }
+}
+
+impl From<Memory> for Halt {
+    ghost use Rattle.std.specs.Prelude.{◌≡◌};
+    ghost use Rattle.events.specs.declared.halt.Halt.TheVariants.{Memory as OutOfMemory};
+
+    ghost from_gives = { λ _ e. e ≡ OutOfMemory };
+
+    fn from(_error: Memory) -> Halt {
+        Halt::Memory
+    }
+}
+
+impl From<EventError> for Halt {
+    ghost use Rattle.events.specs.Halts.{IsFromEvent};
+
+    ghost from_gives = { λ t e. IsFromEvent t e };
+
+    fn from(error: EventError) -> Halt {
+        match error {
+            EventError::Refused { code, detail } => {
+                Halt::Refused(Refusal::Coded { code, detail })
+            }
+            EventError::Memory => Halt::Memory,
+        }
+    }
+}
+
+impl From<TermError> for Halt {
+    ghost use Rattle.events.specs.Halts.{IsFromTerm};
+
+    ghost from_gives = { λ t e. IsFromTerm t e };
+
+    fn from(error: TermError) -> Halt {
+        match error {
+            TermError::Refused { code, detail } => Halt::Refused(Refusal::Coded { code, detail }),
+            TermError::Memory => Halt::Memory,
+        }
+    }
+}

@@ -1,0 +1,135 @@
+//! The checks of an event in their order, whatever its kind, and what it makes.
+
+ghost use Rattle.std.specs.Prelude.{◌≡◌, codes, IfOk};
+ghost use Rattle.lisp_data.specs.FormView.{form_of, IsProper};
+ghost use Rattle.terms.specs.Sound.{add_event};
+ghost use Rattle.plans.specs.Plans.{IsLawfulPlan, IsDirect};
+ghost use Rattle.events.specs.Verdicts.{proved, checked};
+ghost use Rattle.events.specs.Halts.{Judges, Handles, clauses_seen, AreProper};
+
+use crate::clauses::{Clauses, Ways, check_clauses, read_ways};
+use crate::halt::Halt;
+use crate::kind::Kind;
+use crate::lines::{event_line, one_line};
+use crate::names::check_names;
+use crate::proving::prove_all;
+use crate::redundancy::is_redundant;
+use crate::steps::StepAnswer;
+use kernel::Proved;
+use lisp_data::{Form, Memory, Seq, Symbols};
+use plans::{Plan, install};
+use std::alloc::Global;
+use worlds::World;
+
+/// A list of proved sequents.
+pub type ProvedList = Seq<Proved>;
+
+/// The proofs of an event's conditions, and of what its plan claims.
+pub struct EventProofs {
+    /// In the world before the event: one for each condition, in order, and then those of the plan's claims there.
+    pub before: ProvedList,
+    /// In the world with the functions that the event makes: of the plan's claims there. No event has a plan with claims as yet.
+    pub after: ProvedList,
+}
+
+impl Drop for EventProofs {
+    fn drop(self) {
+        let EventProofs {
+            before: _,
+            after: _,
+        } = self;
+    }
+}
+
+/// What an accepted event makes: a world, in which it isn't kept yet, and its proofs.
+pub(crate) struct Made {
+    pub world: World,
+    pub proofs: EventProofs,
+}
+
+impl Drop for Made {
+    fn drop(self) {
+        let Made {
+            world: _,
+            proofs: _,
+        } = self;
+    }
+}
+
+impl Made {
+    /// Keeps the event in the world.
+    fn keep(self, alloc: Global, form: &Form) -> Result<(World, EventProofs), Memory>
+        requires { IsProper form.now }
+        ensures world { IfOk result (λ kept. kept.0 ≡ add_event (form_of form.now) self.world) }
+        ensures proofs { IfOk result (λ kept. kept.1 ≡ self.proofs) }
+    {
+        let Made { world, proofs } = self;
+        let world = world.with_event(alloc, form.copy(alloc)?)?;
+        Ok((world, proofs))
+    }
+}
+
+/// Proves the conditions of a plan, and makes what it plans.
+fn carry_out(
+    alloc: Global,
+    world: &World,
+    plan: &Plan,
+    clauses: &Clauses<'_>,
+) -> Result<Made, Halt>
+    requires lawful { IsLawfulPlan world.now plan.now }
+    requires direct { IsDirect plan.now }
+    requires proper { AreProper clauses.now }
+    ensures { Judges world.now (proved world.now (clauses_seen clauses.now) plan.now) result }
+{
+    world.soundness();
+    let conditions = plan.conditions.as_slice();
+    check_clauses(alloc, conditions, clauses)?;
+    let ways = read_ways(alloc, world, clauses, conditions, Ways::new(alloc))?;
+    let before = prove_all(
+        alloc,
+        world,
+        conditions,
+        ways.as_slice(),
+        ProvedList::new(alloc),
+    )?;
+    let world = install(alloc, world.share()?, plan.entries.as_slice())?;
+    let after = ProvedList::new(alloc);
+    Ok(Made {
+        world,
+        proofs: EventProofs { before, after },
+    })
+}
+
+/// Judges an event that wasn't accepted before: its new names, its own checks, and its conditions.
+fn judge<K: Kind>(alloc: Global, world: &World, event: &K) -> Result<Made, Halt>
+    requires { K.proper event.now }
+    ensures { Judges world.now (checked world.now (K.frame event.now)) result }
+{
+    world.soundness();
+    event.is_lawful();
+    let names = event.names(alloc)?;
+    check_names(alloc, world, Symbols::new(alloc), names.as_slice())?;
+    let plan = event.plan(alloc, world)?;
+    carry_out(alloc, world, &plan, &event.clauses())
+}
+
+/// Handles an event, from its redundancy on; a refusal has no line yet. An accepted event is kept in the world that it makes.
+pub(crate) fn handle<K: Kind>(
+    alloc: Global,
+    world: &World,
+    form: &Form,
+    event: &K,
+) -> Result<StepAnswer, Halt>
+    requires form { IsProper form.now }
+    requires parts { K.proper event.now }
+    ensures { Handles world.now (form_of form.now) (K.frame event.now) result }
+{
+    if is_redundant(alloc, world, form, &event.repeats())? {
+        let line = event_line(alloc, "redundant ", event)?;
+        return Ok(StepAnswer::Redundant(one_line(alloc, line)?));
+    }
+    let made = judge(alloc, world, event)?;
+    let (next, proofs) = made.keep(alloc, form)?;
+    let line = event_line(alloc, "ok ", event)?;
+    Ok(StepAnswer::Accepted(next, one_line(alloc, line)?, proofs))
+}

@@ -1,0 +1,55 @@
+//! What the handling of events asks of a kind of event.
+
+ghost use Rattle.std.specs.Prelude.{◌≡◌, ◌++◌, IfOk, OnOk};
+ghost use Rattle.plans.specs.Plans.{IsDirect};
+ghost use Rattle.events.specs.Frames.{Frame};
+ghost use Rattle.events.specs.Laws.{IsLawful};
+ghost use Rattle.events.specs.Halts.{Says, clauses_seen, AreProper, repeats_seen, HasProperFormula};
+
+use crate::clauses::Clauses;
+use crate::halt::Halt;
+use crate::redundancy::Repeats;
+use lisp_data::Symbols;
+use lists::{Memory, Text};
+use plans::Plan;
+use std::alloc::Global;
+use worlds::World;
+
+/// A kind of event, as its frame says (docs/ARCHITECTURE.md, "To add an event").
+pub trait Kind {
+    /// The frame of an event of this kind.
+    ghost frame: { Self → Frame };
+
+    /// The forms in it are proper.
+    ghost proper: { Self → Type 0 };
+
+    /// A law of each event of this kind: its plans do what they claim.
+    fn is_lawful(&self)
+        ensures { IsLawful (frame self.now) };
+
+    /// Writes its word and its name. Where there is no memory a part of it may be there.
+    fn write_title(&self, out: &mut Text) -> Result<(), Memory>
+        ensures { OnOk result (out.new ≡ out.old ++ (frame self.now).title) };
+
+    /// Its new names, in order.
+    fn names(&self, alloc: Global) -> Result<Symbols, Memory>
+        ensures { IfOk result (λ names. names ≡ (frame self.now).names) };
+
+    /// When it repeats an earlier event.
+    fn repeats(&self) -> Repeats<'_>
+        requires { proper self.now }
+        ensures repeats { repeats_seen result ≡ (frame self.now).repeats }
+        ensures proper { HasProperFormula result };
+
+    /// How its conditions are proved.
+    fn clauses(&self) -> Clauses<'_>
+        requires { proper self.now }
+        ensures clauses { clauses_seen result ≡ (frame self.now).clauses }
+        ensures proper { AreProper result };
+
+    /// What it makes and what has to be proved for it, where its names are new.
+    fn plan(&self, alloc: Global, world: &World) -> Result<Plan, Halt>
+        requires { proper self.now }
+        ensures plan { Says (λ plan. plan) ((frame self.now).plan world.now) result }
+        ensures direct { IfOk result IsDirect };
+}

@@ -1,0 +1,45 @@
+//! `in-package`.
+
+ghost use Rattle.events.specs.InPackage as spec;
+
+use crate::clauses::Clauses;
+use crate::halt::Halt;
+use crate::kind::Kind;
+use crate::redundancy::Repeats;
+use lisp_data::Symbols;
+use lists::{Memory, Text};
+use plans::Plan;
+use std::alloc::Global;
+use worlds::World;
+
+/// `(in-package "ACL2")`.
+#[derive(Clone, Copy)]
+pub struct InPackage;
+
+impl Kind for InPackage {
+    ghost frame = { λ e. spec.in_package };
+
+    ghost proper = { λ e. Unit {0} };
+
+    fn is_lawful(&self) {}
+
+    fn write_title(&self, out: &mut Text) -> Result<(), Memory> {
+        out.extend(b"in-package ACL2")
+    }
+
+    fn names(&self, alloc: Global) -> Result<Symbols, Memory> {
+        Ok(Symbols::new(alloc))
+    }
+
+    fn repeats(&self) -> Repeats<'_> {
+        Repeats::Never
+    }
+
+    fn clauses(&self) -> Clauses<'_> {
+        Clauses::NoClauses
+    }
+
+    fn plan(&self, alloc: Global, _world: &World) -> Result<Plan, Halt> {
+        Ok(Plan::new(alloc))
+    }
+}

@@ -1,0 +1,16 @@
+//! Laws of events, each the contract of a function that does nothing.
+
+ghost use Rattle.events.specs.Laws.{AcceptedIsSound, ProofForEach};
+
+/// A lawful event that is accepted in a sound world makes a sound world.
+pub fn accepted_is_sound()
+    ensures { AcceptedIsSound }
+{
+    plans::entries_keep_sound();
+    plans::proved_conditions_hold();
+}
+
+/// An accepted event has one proof for each of its conditions and claims.
+pub fn proof_for_each()
+    ensures { ProofForEach }
+{}

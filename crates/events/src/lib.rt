@@ -1,0 +1,25 @@
+//! Events of every kind by one frame: what an event is, its checks in order, what it makes, its proofs and its lines.
+#![tactic(auto)]
+
+mod clauses;
+mod definitions;
+mod halt;
+mod handle;
+mod kind;
+mod kinds;
+mod laws;
+mod lines;
+mod names;
+mod own;
+mod proving;
+mod redundancy;
+mod refusal;
+mod steps;
+#[cfg(test)]
+mod tests;
+
+pub use handle::{EventProofs, ProvedList};
+pub use laws::{accepted_is_sound, proof_for_each};
+pub use lines::refused_text;
+pub use refusal::Refusal;
+pub use steps::{Lines, StepAnswer, step};

@@ -1,0 +1,85 @@
+//! The conditions of an event, proved one after the other.
+
+ghost use Rattle.std.specs.Prelude.{◌≡◌, ◌<◌, ◌^◌};
+ghost use Rattle.proof_objects.specs.ProofTrees.{steps};
+ghost use Rattle.events.specs.Halts.{IsWrong, ProvesOne, ProvesAfter};
+
+use crate::clauses::Way;
+use crate::halt::Halt;
+use crate::handle::ProvedList;
+use crate::refusal::Refusal;
+use kernel::{CheckError, Proved, RuleName, check};
+use plans::{Condition, proves};
+use proof_objects::{Proof, ProofNode};
+use std::alloc::Global;
+use worlds::World;
+
+/// The number of a proof's last node.
+fn root_number(proof: &Proof) -> u32
+    requires { steps proof.now < 2 ^ 32 }
+    ensures { result ≡ steps proof.now }
+{
+    match proof.node() {
+        ProofNode::Refl(_) => 1,
+        ProofNode::Replace(p, q, _) => root_number(p) + root_number(q) + 1,
+        ProofNode::Unfold(_) => 1,
+    }
+}
+
+/// A condition's proof is wrong at a node.
+fn wrong(condition: &Condition, node: u32, rule: RuleName) -> Halt
+    ensures { IsWrong condition.now.name node rule result }
+{
+    match condition.name.share() {
+        Ok(condition) => Halt::Refused(Refusal::ProofWrong {
+            condition,
+            node,
+            rule,
+        }),
+        Err(_) => Halt::Memory,
+    }
+}
+
+/// Proves a condition in the world, in its way.
+fn prove_one(alloc: Global, world: &World, condition: &Condition, way: &Way) -> Result<Proved, Halt>
+    ensures { ProvesOne world.now condition.now way.now result }
+{
+    let Way::ByProof(proof) = way;
+    match check(alloc, world, proof) {
+        Ok(proved) => {
+            if proves(proved.sequent(), &condition.sequent) {
+                Ok(proved)
+            } else {
+                Err(wrong(condition, root_number(proof), RuleName::Claim))
+            }
+        }
+        Err(error) => match error {
+            CheckError::ProofWrong { node, rule } => Err(wrong(condition, node, rule)),
+            CheckError::Limit { node: _, code: _ } => unreachable!(),
+            CheckError::Memory => Err(Halt::Memory),
+        },
+    }
+}
+
+/// Proves the conditions in order, and puts their proofs behind those that there are.
+pub(crate) fn prove_all(
+    alloc: Global,
+    world: &World,
+    conditions: &[Condition],
+    ways: &[Way],
+    mut before: ProvedList,
+) -> Result<ProvedList, Halt>
+    ensures { ProvesAfter world.now conditions.now ways.now before result }
+{
+    match conditions {
+        [] => Ok(before),
+        [first, rest @ ..] => match ways {
+            [] => Err(Halt::not_an_event()),
+            [way, others @ ..] => {
+                let proved = prove_one(alloc, world, first, way)?;
+                before.push(proved)?;
+                prove_all(alloc, world, rest, others, before)
+            }
+        },
+    }
+}

@@ -1,0 +1,88 @@
+//! The handling of one event.
+
+ghost use Rattle.std.specs.Prelude.{◌≡◌, IfOk};
+ghost use Rattle.lisp_data.specs.FormView.{form_of, IsProper};
+ghost use Rattle.event_forms.specs.Shapes.{event_of};
+ghost use Rattle.events.specs.Halts.{Answers};
+ghost use Rattle.events.specs.Steps.{IsStep};
+
+use crate::halt::Halt;
+use crate::handle::{EventProofs, handle};
+use crate::kinds::defthm::Defthm;
+use crate::kinds::defun::Defun;
+use crate::kinds::in_package::InPackage;
+use crate::kinds::include_book::IncludeBook;
+use crate::lines::{one_line, refused_text};
+use event_forms::{Event, read_event};
+use lisp_data::{Form, Memory};
+use lisp_reader::Located;
+use lists::{Seq, Text};
+use std::alloc::Global;
+use worlds::World;
+
+/// The lines of a report.
+pub type Lines = Seq<Text>;
+
+/// What the handling of an event answers (docs/BOOKS.md).
+#[derive(Drop)]
+pub enum StepAnswer {
+    /// The world that it makes, its lines, and its proofs.
+    Accepted(World, Lines, EventProofs),
+    /// It was accepted before.
+    Redundant(Lines),
+    /// A value is printed.
+    Printed(Lines),
+    /// The code of the refusal, and its lines.
+    Refused(u8, Lines),
+}
+
+/// Handles an event, which is the book's event of this index, counted from 1. The world stays as it is.
+pub fn step(
+    alloc: Global,
+    world: &World,
+    located: &Located,
+    index: u64,
+    _show: bool,
+) -> Result<StepAnswer, Memory>
+    requires { IsProper located.now.form }
+    ensures { IfOk result (IsStep world.now (form_of located.now.form) located.now.place index) }
+{
+    match answer(alloc, world, &located.form) {
+        Ok(answer) => Ok(answer),
+        Err(halt) => match halt {
+            Halt::Refused(why) => {
+                let line = refused_text(alloc, index, &why, located.place)?;
+                let lines = one_line(alloc, line)?;
+                Ok(StepAnswer::Refused(why.code(), lines))
+            }
+            Halt::Memory => Err(Memory),
+        },
+    }
+}
+
+/// The answer to an event, by its kind; a refusal has no line yet.
+fn answer(alloc: Global, world: &World, form: &Form) -> Result<StepAnswer, Halt>
+    requires { IsProper form.now }
+    ensures { Answers world.now (form_of form.now) (event_of (form_of form.now)) result }
+{
+    match read_event(alloc, form)? {
+        Event::InPackage => handle(alloc, world, form, &InPackage),
+        Event::IncludeBook(book) => handle(alloc, world, form, &IncludeBook { book }),
+        Event::Defun(name, formals, body) => {
+            let event = Defun {
+                name,
+                formals,
+                body,
+            };
+            handle(alloc, world, form, &event)
+        }
+        Event::Defthm(name, formula, proof) => {
+            let event = Defthm {
+                name,
+                formula,
+                proof,
+            };
+            handle(alloc, world, form, &event)
+        }
+    }
+}

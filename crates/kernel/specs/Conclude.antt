@@ -1,0 +1,60 @@
+-- What each step concludes from the sequents of its subproofs.
+use Rattle.std.specs.Prelude.{List, [], ◌∷◌, Option, None}
+use Rattle.lisp_data.specs.declared.code.Code.{Code}
+use Rattle.lisp_data.specs.declared.code.Code.TheVariants.{ProofWrong}
+use Rattle.terms.specs.Worlds.{World}
+use Rattle.terms.specs.declared.sequent.Sequent.{Sequent}
+use Rattle.proof_objects.specs.declared.step.Step.{Step}
+use Rattle.proof_objects.specs.declared.step.Step.TheVariants.{Hyp, Refl, Replace, Unfold, Eval, Substitute, IfTrue, IfFalse, Cases, Cut, Weaken, Contradict, Axiom, Ring, ImpliesIn, ImpliesOut, Universal, Discharge, Theorem, Instance, Induct}
+use Rattle.kernel.specs.Equations.{reflexive, replaced, unfolded, if_true, if_false}
+use Rattle.kernel.specs.Logic.{hypothesis, substituted, by_cases, cut, weakened, contradicted, implied, detached, instantiated, discharged}
+use Rattle.kernel.specs.Axioms.{axiom_instance}
+use Rattle.kernel.specs.Facts.{fact_of}
+
+-- how many subproofs a rule takes
+abbrev pub from_none : Option Sequent → List Sequent → Option Sequent
+from_none o [] = o
+from_none o (p ∷ ps) = None
+
+abbrev pub from_one : (Sequent → Option Sequent) → List Sequent → Option Sequent
+from_one k [] = None
+from_one k (p ∷ []) = k p
+from_one k (p ∷ q ∷ ps) = None
+
+abbrev pub from_two : (Sequent → Sequent → Option Sequent) → List Sequent → Option Sequent
+from_two k [] = None
+from_two k (p ∷ []) = None
+from_two k (p ∷ q ∷ []) = k p q
+from_two k (p ∷ q ∷ r ∷ ps) = None
+
+-- a rule that no proof may use yet
+abbrev pub not_built : List Sequent → Option Sequent
+not_built ps = None
+
+-- the sequent that a step concludes from what its subproofs do, or nothing
+abbrev pub conclude : World → Step → List Sequent → Option Sequent
+conclude W (Hyp p) = from_none (hypothesis W.functions p)
+conclude W (Refl a) = from_none (reflexive W.functions a)
+conclude W (Replace path) = from_two (replaced path)
+conclude W (Unfold t) = from_none (unfolded W.functions t)
+conclude W (Eval a) = not_built
+conclude W (Substitute s) = from_one (substituted W.functions s)
+conclude W (IfTrue b c) = from_one (if_true W.functions b c)
+conclude W (IfFalse b c) = from_one (if_false W.functions b c)
+conclude W (Cases c) = from_two (by_cases W.functions c)
+conclude W Cut = from_two cut
+conclude W (Weaken hs us) = from_one (weakened W.functions hs us)
+conclude W (Contradict g) = from_two (contradicted W.functions g)
+conclude W (Axiom k s) = from_none (axiom_instance W.functions k s)
+conclude W (Ring a b) = not_built
+conclude W (ImpliesIn p) = from_one (implied W.functions p)
+conclude W ImpliesOut = from_two detached
+conclude W (Universal u s) = from_none (instantiated W.functions u s)
+conclude W Discharge = from_two discharged
+conclude W (Theorem fact) = from_none (fact_of W fact)
+conclude W (Instance fact pairs) = not_built
+conclude W (Induct m cases) = not_built
+
+-- the code of a step that concludes nothing: that of a limit, where its rule computes and meets one
+abbrev pub code_of : World → Step → Code
+code_of W s = ProofWrong

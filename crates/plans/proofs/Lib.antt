@@ -1,0 +1,2 @@
+pub mod EntriesSound
+pub mod ProvedHold

@@ -1,0 +1,76 @@
+-- What entries add to a world, and what it takes for a world to stay sound with them.
+use Rattle.std.specs.Prelude.{◌≡◌, true, false, List, [], ◌∷◌, ◌++◌}
+use Rattle.terms.specs.Worlds.{World, FitsSequent, Holds}
+use Rattle.terms.specs.Measures.{mentions}
+use Rattle.terms.specs.Formed.{IsWellFormed, FitsOver, ObligationsHold}
+use Rattle.terms.specs.Sound.{AllHold, iso_conditions, add_definition, add_variable, add_theorem, add_specification}
+use Rattle.terms.specs.declared.definition.Definition.{Definition}
+use Rattle.terms.specs.declared.sequent.Sequent.{Sequent}
+use Rattle.worlds.specs.Names.{is_free}
+use Rattle.worlds.specs.Entries.{instance_of}
+use Rattle.plans.specs.declared.plan.Entry.{Entry}
+use Rattle.plans.specs.declared.plan.Entry.TheVariants.{Function, Variable, Theorem, Spec, Isomorphism, Instance, Chained}
+
+-- the world with one more entry
+abbrev pub add_entry : Entry → World → World
+add_entry (Function d) W = add_definition d W
+add_entry (Variable x k) W = add_variable x k W
+add_entry (Theorem n s) W = add_theorem n s W
+add_entry (Spec s) W = add_specification s W
+add_entry (Isomorphism i) W = record W { isos = i ∷ W.isos }
+add_entry (Instance of pairs instance) W = record W { instances = W.instances ++ instance_of of pairs instance ∷ [] }
+add_entry (Chained n l) W = record W { links = (n, l) ∷ W.links }
+
+-- one after the other
+abbrev pub add_entries : List Entry → World → World
+add_entries [] W = W
+add_entries (e ∷ es) W = add_entries es (add_entry e W)
+
+-- a function variable, a definition or a specification
+abbrev pub add_function : Entry → World → World
+add_function (Function d) W = add_definition d W
+add_function (Variable x k) W = add_variable x k W
+add_function (Spec s) W = add_specification s W
+add_function _ W = W
+
+-- the functions, function variables and specifications among them, and nothing else
+abbrev pub add_functions : List Entry → World → World
+add_functions [] W = W
+add_functions (e ∷ es) W = add_functions es (add_function e W)
+
+-- a function with a free name, well formed, whose measure does what it owes
+pub record IsNewDefinition (W : World) (d : Definition) : Type 0 where
+  pub free : is_free W d.name ≡ true
+  pub well_formed : IsWellFormed W.functions d
+  pub owed : ObligationsHold W.functions d
+
+-- a sequent without hypotheses that holds
+pub record IsNewTheorem (W : World) (s : Sequent) : Type 0 where
+  pub no_hyps : s.hyps ≡ []
+  pub fits : FitsSequent W.functions s
+  pub holds : Holds W.functions s
+
+-- the world can take the entry: its name is free, and it is what the world keeps of its kind
+abbrev pub Admits : World → Entry → Type 0
+Admits W (Function d) = IsNewDefinition W d
+Admits W (Variable x k) = is_free W x ≡ true
+Admits W (Theorem n s) = (is_free W n ≡ true) × IsNewTheorem W s
+Admits W (Spec s) = (is_free W s.name ≡ true) × FitsOver W.functions s.variables s.matrix
+Admits W (Isomorphism i) = (is_free W i.name ≡ true) × AllHold W.functions (iso_conditions i)
+Admits W (Instance of pairs instance) = Unit {0}
+Admits W (Chained n l) = Unit {0}
+
+-- it can take them one after the other
+abbrev pub AdmitsAll : World → List Entry → Type 0
+AdmitsAll W [] = Unit {0}
+AdmitsAll W (e ∷ es) = Admits W e × AdmitsAll (add_entry e W) es
+
+-- what worlds take as yet: no recursive function, and no isomorphism, instance or link
+abbrev pub IsBuilt : Entry → Type 0
+IsBuilt (Function d) = mentions d.name d.body ≡ false
+IsBuilt (Variable x k) = Unit {0}
+IsBuilt (Theorem n s) = Unit {0}
+IsBuilt (Spec s) = Unit {0}
+IsBuilt (Isomorphism i) = ⊥
+IsBuilt (Instance of pairs instance) = ⊥
+IsBuilt (Chained n l) = ⊥

@@ -1,0 +1,87 @@
+//! The world with what a plan makes.
+
+ghost use Rattle.std.specs.Prelude.{◌≡◌, true, IfOk, IsErrOf, Ok};
+ghost use Rattle.terms.specs.Worlds.{Each};
+ghost use Rattle.terms.specs.Sound.{add_theorem};
+ghost use Rattle.worlds.specs.Names.{is_free};
+ghost use Rattle.plans.specs.Entries.{Admits, AdmitsAll, IsBuilt, IsNewTheorem, add_entry, add_entries};
+
+use crate::plan::Entry;
+use lisp_data::{Memory, Symbol};
+use std::alloc::Global;
+use terms::{Sequent, Specification};
+use worlds::{World, WorldError};
+
+/// A larger world, whose new name is free.
+fn grown(world: Result<World, WorldError>) -> Result<World, Memory>
+    requires { IsErrOf world WorldError.NameTaken → ⊥ }
+    ensures { IfOk result (λ next. world ≡ Ok next) }
+{
+    match world {
+        Ok(world) => Ok(world),
+        Err(error) => match error {
+            WorldError::NameTaken => unreachable!(),
+            WorldError::Memory => Err(Memory),
+        },
+    }
+}
+
+fn copied(alloc: Global, specification: &Specification) -> Result<Specification, Memory>
+    ensures { IfOk result (λ s. s ≡ specification.now) }
+{
+    let name = specification.name.share()?;
+    let variables = specification.variables.copy(alloc)?;
+    let matrix = specification.matrix.share()?;
+    Ok(Specification {
+        name,
+        variables,
+        matrix,
+    })
+}
+
+fn with_new_theorem(
+    alloc: Global,
+    world: &World,
+    name: &Symbol,
+    sequent: &Sequent,
+) -> Result<World, Memory>
+    requires free { is_free world.now name.now ≡ true }
+    requires new { IsNewTheorem world.now sequent.now }
+    ensures { IfOk result (λ next. next ≡ add_theorem name.now sequent.now world.now) }
+{
+    let name = name.share()?;
+    let sequent = sequent.copy(alloc)?;
+    grown(world.with_theorem(alloc, name, sequent))
+}
+
+/// The world with one more entry. Nothing makes an isomorphism, an instance or a link yet.
+fn with_entry(alloc: Global, world: &World, entry: &Entry) -> Result<World, Memory>
+    requires admits { Admits world.now entry.now }
+    requires built { IsBuilt entry.now }
+    ensures { IfOk result (λ next. next ≡ add_entry entry.now world.now) }
+{
+    match entry {
+        Entry::Function(definition) => {
+            grown(world.with_function(alloc, definition.copy(alloc)?))
+        }
+        Entry::Variable(name, arity) => grown(world.with_variable(alloc, name.share()?, *arity)),
+        Entry::Theorem(name, sequent) => with_new_theorem(alloc, world, name, sequent),
+        Entry::Spec(specification) => grown(world.with_spec(alloc, copied(alloc, specification)?)),
+        Entry::Isomorphism(_) | Entry::Instance(_, _, _) | Entry::Chained(_, _) => unreachable!(),
+    }
+}
+
+/// The world with entries, added one after the other.
+pub fn install(alloc: Global, world: World, entries: &[Entry]) -> Result<World, Memory>
+    requires admits { AdmitsAll world entries.now }
+    requires built { Each IsBuilt entries.now }
+    ensures { IfOk result (λ next. next ≡ add_entries entries.now world) }
+{
+    match entries {
+        [] => Ok(world),
+        [first, rest @ ..] => {
+            let next = with_entry(alloc, &world, first)?;
+            install(alloc, next, rest)
+        }
+    }
+}

@@ -1,0 +1,14 @@
+//! Plans of events: what they add to a world, what has to be proved for it, and the world with what was added.
+#![tactic(auto)]
+
+mod entries;
+mod laws;
+mod plan;
+mod proving;
+#[cfg(test)]
+mod tests;
+
+pub use entries::install;
+pub use laws::{entries_keep_sound, proved_conditions_hold};
+pub use plan::{Condition, Conditions, Entries, Entry, Plan, Sequents};
+pub use proving::proves;
