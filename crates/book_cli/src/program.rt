@@ -22,7 +22,7 @@ pub type Words = Seq<Text>;
 /// The longest book, in bytes.
 const LIMIT: usize = 1_048_576;
 
-/// Reads the book, checks its events and writes the report (docs/BOOKS.md). It does all that the program does.
+/// Reads the book, checks its events and writes the report (docs/REPORT.md). It does all that the program does.
 ///
 /// The old log and the new log aren't touched as yet.
 pub fn run<B: Source, L: Source, K: Sink, P: Sink>(

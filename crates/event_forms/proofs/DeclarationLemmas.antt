@@ -4,7 +4,7 @@ use native.Mathlib.Numerals.{unary_clauses}
 use Rattle.lisp_data.specs.Values.{Name}
 use Rattle.lisp_data.specs.FormView.{form_of}
 use Rattle.lisp_data.specs.declared.form.Form.{Form}
-use Rattle.terms.specs.Translation.{and_then}
+use Rattle.term_forms.specs.Translation.{and_then}
 use Rattle.event_forms.specs.Lists.{items_of}
 use Rattle.event_forms.specs.Declarations.{before_body, body_of, declare_list, any_early, declares_unbuilt}
 use Rattle.event_forms.proofs.ItemLemmas.{proper_at}

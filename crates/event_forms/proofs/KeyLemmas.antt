@@ -4,7 +4,7 @@ use Rattle.std.proofs.Math.Seq.{take-length}
 use Rattle.lisp_data.specs.Values.{Name}
 use Rattle.lisp_data.specs.FormView.{form_of}
 use Rattle.lisp_data.specs.declared.form.Form.{Form}
-use Rattle.terms.specs.Translation.{and_then}
+use Rattle.term_forms.specs.Translation.{and_then}
 use Rattle.event_forms.specs.Keys.{with_key, keys}
 use Rattle.event_forms.specs.declared.keys.Keyed.{Keyed}
 

@@ -12,7 +12,7 @@ use Rattle.lisp_data.specs.declared.form.Form.{Form, List as Listed}
 use Rattle.lisp_data.proofs.Chains.{form_of-list, form_of-dotted, form_of-int, form_of-sym, form_of-text}
 use Rattle.lisp_data.proofs.Proper.{proper-list, form_of-listed}
 use Rattle.event_forms.specs.Lists.{items_of}
-use Rattle.terms.specs.Translation.{Takes, Outcome, is_list}
+use Rattle.term_forms.specs.Translation.{Takes, Outcome, is_list}
 use Rattle.terms.proofs.Names.{same_name}
 use Rattle.event_forms.proofs.ItemLemmas.{proper_at}
 use Rattle.event_forms.specs.Lists.{symbol_of}

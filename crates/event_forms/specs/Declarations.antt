@@ -3,7 +3,7 @@ use Rattle.std.specs.Prelude.{Bool, true, false, ◌&&◌, ◌||◌, if◌then�
 use Rattle.std.specs.List.{list_all, list_any}
 use Rattle.lisp_data.specs.Values.{Name}
 use Rattle.lisp_data.specs.Datum.{Datum}
-use Rattle.terms.specs.Translation.{Outcome, and_then}
+use Rattle.term_forms.specs.Translation.{Outcome, and_then}
 use Rattle.event_forms.specs.Lists.{items_of, is_word, symbol_of, text_of}
 use Rattle.event_forms.specs.Refused.{bad_part}
 use Rattle.event_forms.specs.Keys.{keys, has_unbuilt}

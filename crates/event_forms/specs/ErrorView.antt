@@ -1,7 +1,7 @@
 -- A term's refusal as an event's.
 use Rattle.std.specs.Prelude.{◌≡◌}
-use Rattle.terms.specs.declared.translation.TermError.{TermError}
-use Rattle.terms.specs.declared.translation.TermError.TheVariants as term
+use Rattle.term_forms.specs.declared.translation.TermError.{TermError}
+use Rattle.term_forms.specs.declared.translation.TermError.TheVariants as term
 use Rattle.event_forms.specs.declared.errors.EventError.{EventError}
 use Rattle.event_forms.specs.declared.errors.EventError.TheVariants.{Refused, Memory}
 

@@ -2,9 +2,9 @@
 use Rattle.std.specs.Prelude.{ℕ, Bool, true, false, ◌&&◌, ◌||◌, not, if◌then◌else◌, codes, List, [], ◌∷◌, ◌++◌, Option, Some, None, Ok}
 use Rattle.lisp_data.specs.Values.{Name}
 use Rattle.lisp_data.specs.Datum.{Datum}
-use Rattle.terms.specs.Names.{begins_with}
+use Rattle.term_forms.specs.Names.{begins_with}
 use Rattle.terms.specs.Worlds.{is_in}
-use Rattle.terms.specs.Translation.{Outcome, and_then}
+use Rattle.term_forms.specs.Translation.{Outcome, and_then}
 use Rattle.event_forms.specs.Lists.{is_word, symbol_of}
 use Rattle.event_forms.specs.Refused.{bad_part, bad_key, unknown_key}
 use Rattle.event_forms.specs.declared.keys.Keyed.{Keyed}

@@ -4,7 +4,7 @@ use Rattle.lisp_data.specs.Values.{Name}
 use Rattle.lisp_data.specs.Datum.{Datum, IntForm, SymForm, TextForm, PairForm}
 use Rattle.terms.specs.Terms.{Tm}
 use Rattle.terms.specs.Worlds.{is_in}
-use Rattle.terms.specs.Translation.{Takes, Outcome, and_then, map_outcome, is_list, translate}
+use Rattle.term_forms.specs.Translation.{Takes, Outcome, and_then, map_outcome, is_list, translate}
 use Rattle.proof_objects.specs.ProofTrees.{ProofTree, Refl, Replace, Unfold}
 use Rattle.event_forms.specs.Refused.{not_an_event, bad_key, or_refused}
 

@@ -3,7 +3,7 @@ use Rattle.std.specs.Prelude.{◌≡◌, ℕ, List, Option, Some, None, Result, 
 use Rattle.lisp_data.specs.Values.{Name}
 use Rattle.lisp_data.specs.declared.detail.Detail.{Detail}
 use Rattle.lisp_data.specs.declared.detail.Detail.TheVariants as detail
-use Rattle.terms.specs.Translation.{Outcome}
+use Rattle.term_forms.specs.Translation.{Outcome}
 use Rattle.event_forms.specs.declared.errors.EventError.{EventError}
 use Rattle.event_forms.specs.declared.errors.EventError.TheVariants.{Refused, Memory}
 

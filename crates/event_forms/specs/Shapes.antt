@@ -3,7 +3,7 @@ use Rattle.std.specs.Prelude.{ℕ, Bool, true, false, if◌then◌else◌, bytes
 use Rattle.lisp_data.specs.Values.{Name}
 use Rattle.lisp_data.specs.Datum.{Datum}
 use Rattle.terms.specs.Worlds.{is_in}
-use Rattle.terms.specs.Translation.{Outcome, and_then, map_outcome}
+use Rattle.term_forms.specs.Translation.{Outcome, and_then, map_outcome}
 use Rattle.event_forms.specs.Lists.{items_of, is_word, symbol_of, text_of}
 use Rattle.event_forms.specs.Refused.{not_an_event, bad_part, unknown_book, or_refused}
 use Rattle.event_forms.specs.Keys.{keys, value_of, has_unbuilt}

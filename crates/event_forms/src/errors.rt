@@ -1,6 +1,6 @@
 use lisp_data::{Detail, Memory, Symbol, SymbolError, Text};
 use std::alloc::Global;
-use terms::TermError;
+use term_forms::TermError;
 
 /// Why a form is no event, or no proof.
 #[derive(Drop)]

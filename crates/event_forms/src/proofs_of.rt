@@ -13,7 +13,8 @@ use crate::parts::{is_among, items, symbol};
 use lisp_data::{Form, Memory, Symbol};
 use proof_objects::{Proof, ProofNode};
 use std::alloc::Global;
-use terms::{Path, Scope, Signatures, Term, translate};
+use term_forms::{Scope, translate};
+use terms::{Path, Signatures, Term};
 
 /// The proof rules that aren't there yet.
 const UNBUILT_RULES: [&str; 20] = [

@@ -3,7 +3,7 @@ use Rattle.std.proofs.Common.{◌≡◌, Bool, true, false, if◌then◌else◌,
 use Rattle.lisp_data.specs.Datum.{Datum}
 use Rattle.terms.specs.Worlds.{World, Each, Holds}
 use Rattle.terms.specs.Sound.{Sound}
-use Rattle.terms.specs.Translation.{map_outcome}
+use Rattle.term_forms.specs.Translation.{map_outcome}
 use Rattle.terms.specs.declared.sequent.Sequent.{Sequent}
 use Rattle.terms.proofs.MoreEntries.{with_event}
 use Rattle.proof_objects.specs.ProofTrees.{steps}

@@ -5,8 +5,8 @@ use Rattle.lisp_data.specs.Datum.{Datum}
 use Rattle.terms.specs.Worlds.{World, Each, Holds, arity}
 use Rattle.terms.specs.Measures.{obligations}
 use Rattle.terms.specs.Formed.{IsWellFormed}
-use Rattle.terms.specs.Translation.{map_outcome, translate}
-use Rattle.terms.specs.TranslationLaws.{TranslatedTermsFit}
+use Rattle.term_forms.specs.Translation.{map_outcome, translate}
+use Rattle.term_forms.specs.TranslationLaws.{TranslatedTermsFit}
 use Rattle.terms.specs.declared.definition.Definition.{Definition}
 use Rattle.terms.specs.declared.sequent.Sequent.{Sequent}
 use Rattle.worlds.specs.Names.{is_free}

@@ -4,7 +4,7 @@ use Rattle.lisp_data.specs.Values.{Name}
 use Rattle.lisp_data.specs.Datum.{Datum}
 use Rattle.terms.specs.Terms.{Tm}
 use Rattle.terms.specs.Worlds.{arity}
-use Rattle.terms.specs.Translation.{map_outcome, translate}
+use Rattle.term_forms.specs.Translation.{map_outcome, translate}
 use Rattle.terms.specs.declared.sequent.Sequent.{Sequent}
 use Rattle.event_forms.specs.ProofTexts.{any}
 use Rattle.plans.specs.declared.plan.Condition.{Condition}

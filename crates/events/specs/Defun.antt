@@ -4,7 +4,7 @@ use Rattle.std.specs.Fmt.{decimal}
 use Rattle.lisp_data.specs.Values.{Name}
 use Rattle.lisp_data.specs.Datum.{Datum}
 use Rattle.terms.specs.Measures.{obligations}
-use Rattle.terms.specs.Translation.{map_outcome}
+use Rattle.term_forms.specs.Translation.{map_outcome}
 use Rattle.terms.specs.declared.definition.Definition.{Definition}
 use Rattle.terms.specs.declared.sequent.Sequent.{Sequent}
 use Rattle.plans.specs.declared.plan.Condition.{Condition}

@@ -3,7 +3,7 @@ use Rattle.std.specs.Prelude.{ℕ, List, [], Result, Ok, Err}
 use Rattle.lisp_data.specs.Values.{Name}
 use Rattle.lisp_data.specs.Datum.{Datum}
 use Rattle.terms.specs.Worlds.{World}
-use Rattle.terms.specs.Translation.{Outcome}
+use Rattle.term_forms.specs.Translation.{Outcome}
 use Rattle.plans.specs.declared.plan.Plan.{Plan}
 use Rattle.events.specs.declared.refusal.Refusal.{Refusal}
 use Rattle.events.specs.declared.refusal.Refusal.TheVariants.{Coded}

@@ -3,11 +3,12 @@ use Rattle.std.specs.Prelude.{◌≡◌, ℕ, true, codes, List, [], ◌∷◌, 
 use Rattle.lisp_data.specs.FormView.{form_of, IsProper}
 use Rattle.lisp_data.specs.Datum.{Datum}
 use Rattle.lisp_data.specs.Values.{Name}
+use Rattle.lisp_data.specs.declared.code.Code.{Code}
 use Rattle.lisp_data.specs.declared.detail.Detail.{Detail}
 use Rattle.terms.specs.Worlds.{World}
-use Rattle.terms.specs.Translation.{Outcome, map_outcome}
-use Rattle.terms.specs.declared.translation.TermError.{TermError}
-use Rattle.terms.specs.declared.translation.TermError.TheVariants as term
+use Rattle.term_forms.specs.Translation.{Outcome, map_outcome}
+use Rattle.term_forms.specs.declared.translation.TermError.{TermError}
+use Rattle.term_forms.specs.declared.translation.TermError.TheVariants as term
 use Rattle.kernel.specs.Conclusion.{Conclusion}
 use Rattle.kernel.specs.declared.errors.RuleName.{RuleName}
 use Rattle.event_forms.specs.Shapes.{Event}
@@ -17,7 +18,7 @@ use Rattle.plans.specs.declared.plan.Condition.{Condition}
 use Rattle.plans.specs.declared.plan.Plan.{Plan}
 use Rattle.plans.specs.Entries.{add_entries}
 use Rattle.plans.specs.Proving.{proves, sequents, ProvesAll, AreProofs}
-use Rattle.events.specs.declared.refusal.Refusal.TheVariants.{Coded, ProofWrong}
+use Rattle.events.specs.declared.refusal.Refusal.TheVariants.{Coded, ProofWrong, AtNode}
 use Rattle.events.specs.declared.halt.Halt.{Halt}
 use Rattle.events.specs.declared.halt.Halt.TheVariants.{Refused, Memory}
 use Rattle.events.specs.declared.clauses.Clauses.{Clauses}
@@ -37,7 +38,7 @@ use Rattle.events.specs.Lines.{event_text}
 use Rattle.events.specs.declared.handle.EventProofs.{EventProofs}
 
 -- the refusal has this code and this detail, or it is want of memory
-abbrev pub IsCoded : ℕ → Detail → Halt → Type 0
+abbrev pub IsCoded : Code → Detail → Halt → Type 0
 IsCoded code detail (Refused why) = why ≡ Coded code detail
 IsCoded code detail Memory = Unit {0}
 
@@ -45,6 +46,11 @@ IsCoded code detail Memory = Unit {0}
 abbrev pub IsWrong : Name → ℕ → RuleName → Halt → Type 0
 IsWrong condition node rule (Refused why) = why ≡ ProofWrong condition node rule
 IsWrong condition node rule Memory = Unit {0}
+
+-- a rule of a condition's proof can't go on, or it is want of memory
+abbrev pub IsStopped : Name → ℕ → Code → Halt → Type 0
+IsStopped condition node code (Refused why) = why ≡ AtNode code condition node
+IsStopped condition node code Memory = Unit {0}
 
 -- an error is the outcome's refusal, or want of memory
 abbrev pub IsRefusal : {A : Type 0} → Outcome A → Halt → Type 0

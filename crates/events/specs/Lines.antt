@@ -2,7 +2,7 @@
 use Rattle.std.specs.Prelude.{ℕ, List, [], ◌++◌, Ok, Err, codes}
 use Rattle.std.specs.Fmt.{decimal}
 use Rattle.lisp_data.specs.Datum.{Datum}
-use Rattle.terms.specs.Translation.{Outcome}
+use Rattle.term_forms.specs.Translation.{Outcome}
 use Rattle.event_forms.specs.Shapes.{Event, event_of}
 use Rattle.events.specs.declared.refusal.Refusal.{Refusal}
 use Rattle.events.specs.Frames.{Frame}

@@ -3,7 +3,7 @@ use Rattle.std.specs.Prelude.{Bool, false, ◌||◌, Option, Some, None, Ok, Err
 use Rattle.lisp_data.specs.Datum.{Datum}
 use Rattle.terms.specs.Terms.{Tm, same_tm}
 use Rattle.terms.specs.Worlds.{World, arity}
-use Rattle.terms.specs.Translation.{Outcome, translate}
+use Rattle.term_forms.specs.Translation.{Outcome, translate}
 use Rattle.worlds.specs.Events.{has_event, find_defthm}
 use Rattle.event_forms.specs.Shapes.{Event, event_of}
 use Rattle.event_forms.specs.ProofTexts.{any}

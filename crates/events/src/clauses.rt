@@ -54,7 +54,7 @@ pub(crate) fn check_clauses(
             if has_goal(conditions) {
                 Ok(())
             } else {
-                Err(Halt::word(alloc, Code::ShapeMismatch.number(), "conditions"))
+                Err(Halt::word(alloc, Code::ShapeMismatch, "conditions"))
             }
         }
     }

@@ -5,7 +5,7 @@ ghost use Rattle.lisp_data.specs.FormView.{form_of, IsProper, AllProper};
 ghost use Rattle.terms.specs.Measures.{mentions as calls};
 ghost use Rattle.terms.specs.Terms.{tms};
 ghost use Rattle.terms.specs.Measures.{mentions_in};
-ghost use Rattle.terms.specs.Translation.{distinct_after};
+ghost use Rattle.term_forms.specs.Translation.{distinct_after};
 ghost use Rattle.events.specs.Definitions as spec;
 ghost use Rattle.events.specs.Halts.{Reads};
 
@@ -15,7 +15,8 @@ use crate::own::WithOwn;
 use event_forms::symbol;
 use lisp_data::{Code, Form, Symbol, Symbols};
 use std::alloc::Global;
-use terms::{Definition, Node, Scope, Term, is_variable_name, translate};
+use term_forms::{Scope, is_variable_name, translate};
+use terms::{Definition, Node, Term};
 use worlds::World;
 
 /// The most formals of a function.
@@ -58,7 +59,7 @@ fn check_distinct(names: &[Symbol]) -> Result<(), Halt>
 {
     for (i, name) in names.iter().enumerate() {
         if is_among(&names[..i], name) {
-            return Err(Halt::named(Code::RepeatedFormal.number(), name));
+            return Err(Halt::named(Code::RepeatedFormal, name));
         }
     }
     Ok(())

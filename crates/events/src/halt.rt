@@ -5,7 +5,7 @@ use event_forms::EventError;
 use lisp_data::{Code, Detail, Symbol};
 use lists::{Memory, Text};
 use std::alloc::Global;
-use terms::TermError;
+use term_forms::TermError;
 
 /// What ends the handling of an event.
 #[derive(Drop)]
@@ -16,29 +16,28 @@ pub enum Halt {
 
 impl Halt {
     ghost use Rattle.lisp_data.specs.declared.detail.Detail.TheVariants.{Absent, Name, Word};
-    ghost use Rattle.lisp_data.specs.RefusalCodes.{number};
     ghost use Rattle.lisp_data.specs.declared.code.Code.TheVariants.{NotAnEvent, BadForm};
     ghost use Rattle.events.specs.Halts.{IsCoded};
 
     /// The event isn't there yet.
     pub(crate) fn not_an_event() -> Halt
-        ensures { IsCoded (number NotAnEvent) Absent result }
+        ensures { IsCoded NotAnEvent Absent result }
     {
         Halt::Refused(Refusal::Coded {
-            code: Code::NotAnEvent.number(),
+            code: Code::NotAnEvent,
             detail: Detail::Absent,
         })
     }
 
     /// A part of an event has another shape.
     pub(crate) fn bad_part(alloc: Global, word: &str) -> Halt
-        ensures { IsCoded (number BadForm) (Word word.now) result }
+        ensures { IsCoded BadForm (Word word.now) result }
     {
-        Halt::word(alloc, Code::BadForm.number(), word)
+        Halt::word(alloc, Code::BadForm, word)
     }
 
     /// A word is refused, by its code.
-    pub(crate) fn word(alloc: Global, code: u8, word: &str) -> Halt
+    pub(crate) fn word(alloc: Global, code: Code, word: &str) -> Halt
         ensures { IsCoded code (Word word.now) result }
     {
         match Text::from_slice(alloc, word.as_bytes()) {
@@ -51,7 +50,7 @@ impl Halt {
     }
 
     /// A name is refused, by its code.
-    pub(crate) fn named(code: u8, name: &Symbol) -> Halt
+    pub(crate) fn named(code: Code, name: &Symbol) -> Halt
         ensures { IsCoded code (Name name.now) result }
     {
         match name.share() {

@@ -10,7 +10,8 @@ ghost use Rattle.events.specs.Redundancy as spec;
 use event_forms::{Event, EventError, read_event};
 use lisp_data::{Form, Memory, Symbol};
 use std::alloc::Global;
-use terms::{Scope, Term, TermError, translate};
+use term_forms::{Scope, TermError, translate};
+use terms::Term;
 use worlds::World;
 
 /// When an event repeats an earlier one.

@@ -1,5 +1,5 @@
 -- What concludes in a sound world holds there.
-use Rattle.std.proofs.Common.{◌≡◌, ◌≢◌, ℕ, Bool, true, false, List, [], ◌∷◌, length, codes, Some, refl, sym, ap, ◌∙◌, subst}
+use Rattle.std.proofs.Common.{◌≡◌, ◌≢◌, ℕ, Bool, true, false, List, [], ◌∷◌, length, codes, Option, Some, refl, sym, ap, ◌∙◌, subst}
 use Rattle.lisp_data.specs.Values.{Name, Val, nil, same_val}
 use Rattle.terms.specs.Primitives.{Two, primitive, primitives, truth}
 use Rattle.terms.specs.Terms.{Tm, Var, Quote, Call, Tms, count, same_tm, by_args}
@@ -17,9 +17,12 @@ use Rattle.terms.proofs.Meaning.{same_value, value_self, val_same, val_substitut
 use Rattle.terms.proofs.Basics.{t_not_nil}
 use Rattle.terms.proofs.Same.{same_term}
 use Rattle.terms.proofs.Totality.{each_to, over_substitute, over_by_args}
-use Rattle.proof_objects.specs.ProofTrees.{ProofTree, Refl, Replace, Unfold}
-use Rattle.kernel.specs.Rules.{fits, equation, sides_of, of_goal, joined, replaced, body_at, called}
-use Rattle.kernel.specs.Concludes.{concludes}
+use Rattle.proof_objects.specs.declared.step.Step.{Step}
+use Rattle.proof_objects.specs.declared.step.Step.TheVariants.{Refl, Replace, Unfold}
+use Rattle.proof_objects.specs.ProofTrees.{ProofTree, By, Trees, NoMore, Also}
+use Rattle.kernel.specs.Rules.{fits, equation, sides_of, of_goal, joined, reflexive, replaced, body_at, called, unfolded}
+use Rattle.kernel.specs.Conclude.{from_none, from_two, conclude}
+use Rattle.kernel.specs.Concludes.{concludes, all_concluded}
 use Rattle.kernel.specs.Laws.{SoundRules}
 use Rattle.kernel.proofs.Inversions.{then_some, map_some, if_some, fits_true, join_parts, join_to, sides_of_is}
 use Rattle.kernel.proofs.Parts.{over_put, val_put}
@@ -146,22 +149,55 @@ module _ (W : Functions) (formed : AllFormed W.vars W.defs) (total : Total W) wh
         follows = λ I tot. unfold_follows I tot g ts d.0 d.1 f;
       })
 
+-- what a rule's conclusion has, from what its subproofs' have
+module _ (P : Sequent → Type 0) where
+  none_gives : (o : Option Sequent) (ps : List Sequent) (t : Sequent) → (o ≡ Some t → P t) → from_none o ps ≡ Some t → P t
+  none_gives o [] t f e = f e
+  none_gives o (p ∷ ps) t f e = absurd (cc)
+
+  two_gives : (k : Sequent → Sequent → Option Sequent) (ps : List Sequent) (t : Sequent) → Each P ps → ((p q : Sequent) → P p → P q → k p q ≡ Some t → P t) → from_two k ps ≡ Some t → P t
+  two_gives k [] t g f e = absurd (cc)
+  two_gives k (p ∷ []) t g f e = absurd (cc)
+  two_gives k (p ∷ q ∷ []) t g f e = f p q g.0 g.1.0 e
+  two_gives k (p ∷ q ∷ r ∷ ps) t g f e = absurd (cc)
+
+some_is : {A : Type 0} {x y : A} → Some x ≡ Some y → x ≡ y
+some_is q = cc
+
 module _ (W : World) (sound : Sound W) where
-  good : (p : ProofTree) (s : Sequent) → concludes W p ≡ Some s → Good W.functions sound.formed sound.total s
-  good (Refl a) s e =
-      let test = if_some (fits W.functions a) _ s e in
-      subst (Good W.functions sound.formed sound.total) (some_is test.1) (good_refl W.functions sound.formed sound.total a (fits_true W.functions a test.0))
-    where
-      some_is : {x y : Sequent} → Some x ≡ Some y → x ≡ y
-      some_is q = cc
-  good (Replace P Q path) s e =
-      let p = then_some (concludes W P) _ s e in
-      let q = then_some (concludes W Q) (replaced path p.0) s p.2 in
-      good_replace W.functions sound.formed sound.total path p.0 q.0 s (good P p.0 p.1) (good Q q.0 q.1) q.2
-  good (Unfold t) s e =
-      let test = if_some (fits W.functions t) _ s e in
-      let c = map_some (λ c. of_goal (equation t (body_at c.0 c.1))) (called W.functions t) s test.1 in
-      subst (Good W.functions sound.formed sound.total) c.2 (good_unfold W.functions sound.formed sound.total t c.0 (fits_true W.functions t test.0) c.1)
+  abbrev GoodHere : Sequent → Type 0
+  GoodHere = Good W.functions sound.formed sound.total
+
+  good_reflexive : (a : Tm) (t : Sequent) → reflexive W.functions a ≡ Some t → GoodHere t
+  good_reflexive a t e =
+      let test = if_some (fits W.functions a) _ t e in
+      subst GoodHere (some_is test.1) (good_refl W.functions sound.formed sound.total a (fits_true W.functions a test.0))
+
+  good_unfolded : (a : Tm) (t : Sequent) → unfolded W.functions a ≡ Some t → GoodHere t
+  good_unfolded a t e =
+      let test = if_some (fits W.functions a) _ t e in
+      let c = map_some (λ c. of_goal (equation a (body_at c.0 c.1))) (called W.functions a) t test.1 in
+      subst GoodHere c.2 (good_unfold W.functions sound.formed sound.total a c.0 (fits_true W.functions a test.0) c.1)
+
+  -- a line for each rule
+  rule_good : (s : Step) (ps : List Sequent) (t : Sequent) → Each GoodHere ps → conclude W s ps ≡ Some t → GoodHere t
+  rule_good (Refl a) ps t g = none_gives GoodHere _ ps t (good_reflexive a t)
+  rule_good (Replace path) ps t g = two_gives GoodHere _ ps t g (λ p q. good_replace W.functions sound.formed sound.total path p q t)
+  rule_good (Unfold a) ps t g = none_gives GoodHere _ ps t (good_unfolded a t)
+  rule_good _ ps t g = λ e. absurd (cc)
+
+  mutual
+    good : (p : ProofTree) (t : Sequent) → concludes W p ≡ Some t → GoodHere t
+    good (By s ps) t e =
+        let r = then_some (all_concluded W ps) (conclude W s) t e in
+        rule_good s r.0 t (all_good ps r.0 r.1) r.2
+
+    all_good : (ps : Trees) (ts : List Sequent) → all_concluded W ps ≡ Some ts → Each GoodHere ts
+    all_good NoMore ts e = subst (Each GoodHere) (some_is e) tt
+    all_good (Also p ps) ts e =
+        let a = then_some (concludes W p) _ ts e in
+        let b = then_some (all_concluded W ps) _ ts a.2 in
+        subst (Each GoodHere) (some_is b.2) (good p a.0 a.1, all_good ps b.0 b.1)
 
 pub sound_rules : SoundRules
 sound_rules W sound p s e =

@@ -1,12 +1,19 @@
-ghost use Rattle.std.specs.Prelude.{◌≡◌, ◌+◌, ◌<◌, ◌^◌, IfOk, OnOk, None};
-ghost use Rattle.proof_objects.specs.ProofTrees.{steps};
-ghost use Rattle.kernel.specs.Concludes.{concludes, first_bad};
-ghost use Rattle.kernel.specs.Conclusion.{IsProvedBy};
-ghost use Rattle.kernel.specs.Answers.{IfProofWrong, MeetsNoLimit, IsBadAt, IfLimit};
+//! The check of a whole proof.
+
+ghost use Rattle.std.specs.Prelude.{◌≡◌, ◌≢◌, ◌+◌, ◌<◌, ◌^◌, IfOk, OnOk, IsErrOf, None, Some};
+ghost use Rattle.proof_objects.specs.ProofTrees.{steps, steps_in, trees, subproofs_of};
+ghost use Rattle.kernel.specs.Concludes.{concludes, all_concluded, first_bad, first_bad_in};
+ghost use Rattle.kernel.specs.Conclusion.{IsProvedBy, sequents_of};
+ghost use Rattle.kernel.specs.Conclude.{code_of};
+ghost use Rattle.proof_objects.specs.ProofTrees.{step_of};
+ghost use Rattle.lisp_data.specs.declared.code.Code.TheVariants.{ProofWrong as WrongProof};
+ghost use Rattle.kernel.specs.Answers.{IfProofWrong, IfLimitAt, OnRefusal, IsBadAt, IsLimitAt, IfLimit};
 
 use crate::errors::{CheckError, RuleError, RuleName};
 use crate::proved::{Proved, Ruled};
-use proof_objects::{Proof, ProofNode};
+use crate::rules::conclude;
+use lisp_data::Seq;
+use proof_objects::{Proof, Rule};
 use std::alloc::Global;
 use worlds::World;
 
@@ -15,8 +22,8 @@ pub fn check(alloc: Global, world: &World, proof: &Proof) -> Result<Proved, Chec
     ensures ok { IfOk result (λ it. IsProvedBy it world.now proof.now) }
     ensures no_bad { IfOk result (λ it. first_bad world.now 0 proof.now ≡ None) }
     ensures wrong { IfProofWrong result (λ node rule. IsBadAt (first_bad world.now 0 proof.now) node rule) }
-    ensures nothing { IfProofWrong result (λ node rule. concludes world.now proof.now ≡ None) }
-    ensures limits { MeetsNoLimit result }
+    ensures limits { IfLimitAt result (λ node code. IsLimitAt (first_bad world.now 0 proof.now) node code) }
+    ensures nothing { OnRefusal result (concludes world.now proof.now ≡ None) }
     ensures few { OnOk result (steps proof.now < 2 ^ 32) }
 {
     let (proved, _nodes) = check_from(alloc, world, proof, 0)?;
@@ -24,6 +31,8 @@ pub fn check(alloc: Global, world: &World, proof: &Proof) -> Result<Proved, Chec
 }
 
 /// The same, where so many nodes stand before the proof's; and how many stand up to its end.
+#[cycle(check)]
+#[tactic(auto, using(crate::proofs::Premises::premises))]
 fn check_from(
     alloc: Global,
     world: &World,
@@ -34,26 +43,58 @@ fn check_from(
     ensures counted { IfOk result (λ it. it.1 ≡ before + steps proof.now) }
     ensures no_bad { IfOk result (λ it. first_bad world.now before proof.now ≡ None) }
     ensures wrong { IfProofWrong result (λ node rule. IsBadAt (first_bad world.now before proof.now) node rule) }
-    ensures nothing { IfProofWrong result (λ node rule. concludes world.now proof.now ≡ None) }
-    ensures limits { MeetsNoLimit result }
+    ensures limits { IfLimitAt result (λ node code. IsLimitAt (first_bad world.now before proof.now) node code) }
+    ensures nothing { OnRefusal result (concludes world.now proof.now ≡ None) }
 {
-    let rule = proof.node().rule();
-    match proof.node() {
-        ProofNode::Refl(a) => numbered(Proved::refl(alloc, world, a), before, rule),
-        ProofNode::Replace(p, q, path) => {
-            let (eq, middle) = check_from(alloc, world, p, before)?;
-            let (on, last) = check_from(alloc, world, q, middle)?;
-            numbered(Proved::replace(alloc, &eq, &on, path), last, rule)
-        }
-        ProofNode::Unfold(call) => numbered(Proved::unfold(alloc, world, call), before, rule),
+    let node = proof.node();
+    let (premises, last) = check_all(alloc, world, node.subproofs.as_slice(), before)?;
+    let ruled = last_step(alloc, world, proof, premises.as_slice());
+    numbered(ruled, last, node.step.rule())
+}
+
+/// Checks proofs one after the other.
+#[cycle(check)]
+#[tactic(auto, using(crate::proofs::Premises::premises))]
+fn check_all(
+    alloc: Global,
+    world: &World,
+    proofs: &[Proof],
+    before: u32,
+) -> Result<(Seq<Proved>, u32), CheckError>
+    ensures ok { IfOk result (λ it. all_concluded world.now (trees proofs.now) ≡ Some (sequents_of it.0)) }
+    ensures counted { IfOk result (λ it. it.1 ≡ before + steps_in (trees proofs.now)) }
+    ensures no_bad { IfOk result (λ it. first_bad_in world.now before (trees proofs.now) ≡ None) }
+    ensures wrong { IfProofWrong result (λ node rule. IsBadAt (first_bad_in world.now before (trees proofs.now)) node rule) }
+    ensures limits { IfLimitAt result (λ node code. IsLimitAt (first_bad_in world.now before (trees proofs.now)) node code) }
+    ensures nothing { OnRefusal result (all_concluded world.now (trees proofs.now) ≡ None) }
+{
+    let mut premises = Seq::new(alloc);
+    let mut last = before;
+    for proof in proofs {
+        let (premise, next) = check_from(alloc, world, proof, last)?;
+        premises.push(premise)?;
+        last = next;
     }
+    Ok((premises, last))
+}
+
+/// What the last step of a proof concludes from what its subproofs do.
+fn last_step(alloc: Global, world: &World, proof: &Proof, premises: &[Proved]) -> Ruled
+    requires { all_concluded world.now (subproofs_of proof.now) ≡ Some (sequents_of premises.now) }
+    ensures ok { IfOk result (λ it. IsProvedBy it world.now proof.now) }
+    ensures refused { IsErrOf result RuleError.Refused → (concludes world.now proof.now ≡ None) × (code_of world.now (step_of proof.now) ≡ WrongProof) }
+    ensures limits { IfLimit result (λ code. (concludes world.now proof.now ≡ None) × (code_of world.now (step_of proof.now) ≡ code) × (code ≢ WrongProof)) }
+{
+    let sequent = conclude(alloc, world, &proof.node().step, premises)?;
+    let proved = Proved::concluded(alloc, world, proof.share()?, sequent)?;
+    Ok(proved)
 }
 
 /// What a rule answered, with the number of its node.
-fn numbered(ruled: Ruled, before: u32, rule: u32) -> Result<(Proved, u32), CheckError>
+fn numbered(ruled: Ruled, before: u32, rule: Rule) -> Result<(Proved, u32), CheckError>
     ensures ok { IfOk result (λ it. (ruled ≡ Ok it.0) × (it.1 ≡ before + 1)) }
     ensures wrong { IfProofWrong result (λ node name. (ruled ≡ Err RuleError.Refused) × (node ≡ before + 1) × (name ≡ RuleName.Rule rule)) }
-    ensures limit { IfLimit result (λ node code. (ruled ≡ Err (RuleError.Limit code)) × (node ≡ before + 1)) }
+    ensures limits { IfLimitAt result (λ node code. (ruled ≡ Err (RuleError.Limit code)) × (node ≡ before + 1)) }
 {
     let Some(node) = before.checked_add(1) else {
         return Err(CheckError::Memory);

@@ -1,16 +1,18 @@
-ghost use Rattle.std.specs.Prelude.{◌≡◌, ◌↔◌, IfOk, IsErrOf, None, Some};
+//! Proved sequents, and the rules that make them.
+
+ghost use Rattle.std.specs.Prelude.{◌≡◌, ◌↔◌, [], ◌∷◌, IfOk, IsErrOf, None, Some};
 ghost use Rattle.terms.specs.Worlds.{FitsSequent, Holds};
-ghost use Rattle.proof_objects.specs.ProofTrees.{ProofTree};
-ghost use Rattle.proof_objects.specs.ProofView.{tree_of};
-ghost use Rattle.kernel.specs.Concludes.{concludes};
-ghost use Rattle.kernel.specs.Conclusion.{IsProvedBy};
-ghost use Rattle.kernel.specs.Answers.{IsWithinLimits};
+ghost use Rattle.proof_objects.specs.ProofTrees.{By, NoMore, trees};
+ghost use Rattle.kernel.specs.Concludes.{concludes, all_concluded};
+ghost use Rattle.kernel.specs.Conclude.{code_of};
+ghost use Rattle.kernel.specs.Conclusion.{IsProvedBy, proofs_of, sequents_of, AllIn};
+ghost use Rattle.kernel.specs.Answers.{IfLimit, IsWithinLimits};
 
 use crate::errors::RuleError;
 use crate::laws::rules_are_sound;
-use crate::rules::{reflexive, replaced, unfolded};
-use lisp_data::{Memory, Share};
-use proof_objects::{Proof, ProofNode};
+use crate::rules::{conclude, reflexive, replaced, unfolded};
+use lisp_data::{Memory, Seq, Share};
+use proof_objects::{Proof, Step};
 use std::alloc::Global;
 use std::marker::Model;
 use std::rc::Rc;
@@ -51,55 +53,82 @@ impl Model for Proved {
 /// What a rule answers.
 pub type Ruled = Result<Proved, RuleError>;
 
-/// The rules are those of docs/KERNEL.md, one call each.
+/// The rules are those of docs/KERNEL.md.
 impl Proved {
+    /// What a step concludes from the premises.
+    pub fn by(alloc: Global, world: &World, step: Step, premises: &[Proved]) -> Ruled
+        requires { AllIn world.now premises.now }
+        ensures ok { IfOk result (λ it. IsProvedBy it world.now (By step (trees (proofs_of premises.now)))) }
+        ensures refused { IsErrOf result RuleError.Refused → concludes world.now (By step (trees (proofs_of premises.now))) ≡ None }
+        ensures limits { IfLimit result (λ code. (concludes world.now (By step (trees (proofs_of premises.now))) ≡ None) × (code_of world.now step ≡ code)) }
+    {
+        all_conclude(world, premises);
+        let sequent = conclude(alloc, world, &step, premises)?;
+        let proved = Proved::of(alloc, world, step, proofs(alloc, premises)?, sequent)?;
+        Ok(proved)
+    }
+
     /// Reflexivity: `(equal a a)`.
     pub fn refl(alloc: Global, world: &World, a: &Term) -> Ruled
-        ensures ok { IfOk result (λ it. IsProvedBy it world.now (ProofTree.Refl a.now)) }
-        ensures refused { IsErrOf result RuleError.Refused ↔ (concludes world.now (ProofTree.Refl a.now) ≡ None) }
+        ensures ok { IfOk result (λ it. IsProvedBy it world.now (By (Step.Refl a.now) NoMore)) }
+        ensures refused { IsErrOf result RuleError.Refused ↔ (concludes world.now (By (Step.Refl a.now) NoMore) ≡ None) }
         ensures limits { IsWithinLimits result }
     {
         let sequent = reflexive(alloc, world, a)?;
-        let node = ProofNode::Refl(a.share()?);
-        let proved = Proved::concluded(alloc, world, node, sequent)?;
+        let step = Step::Refl(a.share()?);
+        let proved = Proved::of(alloc, world, step, Seq::new(alloc), sequent)?;
         Ok(proved)
     }
 
     /// Replace: `eq` says `(equal a b)`, and the goal of `on` has a at the path, where b is put.
     pub fn replace(alloc: Global, eq: &Proved, on: &Proved, path: &Path) -> Ruled
         requires { eq.now.world ≡ on.now.world }
-        ensures ok { IfOk result (λ it. IsProvedBy it eq.now.world (ProofTree.Replace eq.now.proof on.now.proof path.now)) }
-        ensures refused { IsErrOf result RuleError.Refused ↔ (concludes eq.now.world (ProofTree.Replace eq.now.proof on.now.proof path.now) ≡ None) }
+        ensures ok { IfOk result (λ it. IsProvedBy it eq.now.world (By (Step.Replace path.now) (trees (eq.now.proof ∷ on.now.proof ∷ [])))) }
+        ensures refused { IsErrOf result RuleError.Refused ↔ (concludes eq.now.world (By (Step.Replace path.now) (trees (eq.now.proof ∷ on.now.proof ∷ []))) ≡ None) }
         ensures limits { IsWithinLimits result }
     {
         let sequent = replaced(alloc, &eq.sequent, &on.sequent, path)?;
-        let node = ProofNode::Replace(eq.proof.share()?, on.proof.share()?, path.copy(alloc)?);
-        let proved = Proved::concluded(alloc, &eq.world, node, sequent)?;
+        let step = Step::Replace(path.copy(alloc)?);
+        let proved = Proved::of(alloc, &eq.world, step, both(alloc, eq, on)?, sequent)?;
         Ok(proved)
     }
 
     /// Unfold: the call of a function with a definition equals its body at the arguments.
     pub fn unfold(alloc: Global, world: &World, call: &Term) -> Ruled
-        ensures ok { IfOk result (λ it. IsProvedBy it world.now (ProofTree.Unfold call.now)) }
-        ensures refused { IsErrOf result RuleError.Refused ↔ (concludes world.now (ProofTree.Unfold call.now) ≡ None) }
+        ensures ok { IfOk result (λ it. IsProvedBy it world.now (By (Step.Unfold call.now) NoMore)) }
+        ensures refused { IsErrOf result RuleError.Refused ↔ (concludes world.now (By (Step.Unfold call.now) NoMore) ≡ None) }
         ensures limits { IsWithinLimits result }
     {
         let sequent = unfolded(alloc, world, call)?;
-        let node = ProofNode::Unfold(call.share()?);
-        let proved = Proved::concluded(alloc, world, node, sequent)?;
+        let step = Step::Unfold(call.share()?);
+        let proved = Proved::of(alloc, world, step, Seq::new(alloc), sequent)?;
         Ok(proved)
     }
 
-    fn concluded(
+    /// What the step concludes, with its proof.
+    fn of(
         alloc: Global,
         world: &World,
-        node: ProofNode,
+        step: Step,
+        subproofs: Seq<Proof>,
         sequent: Sequent,
     ) -> Result<Proved, Memory>
-        requires { concludes world.now (tree_of node) ≡ Some sequent }
-        ensures { IfOk result (λ it. IsProvedBy it world.now (tree_of node)) }
+        requires { concludes world.now (By step (trees subproofs)) ≡ Some sequent }
+        ensures { IfOk result (λ it. IsProvedBy it world.now (By step (trees subproofs))) }
     {
-        let proof = Proof::new(alloc, node)?;
+        let proof = Proof::new(alloc, step, subproofs)?;
+        Proved::concluded(alloc, world, proof, sequent)
+    }
+
+    pub(crate) fn concluded(
+        alloc: Global,
+        world: &World,
+        proof: Proof,
+        sequent: Sequent,
+    ) -> Result<Proved, Memory>
+        requires { concludes world.now proof ≡ Some sequent }
+        ensures { IfOk result (λ it. IsProvedBy it world.now proof) }
+    {
         let sequent = Rc::new(alloc, sequent)?;
         let world = world.share()?;
         Ok(Proved {
@@ -145,4 +174,35 @@ impl Share for Proved {
     fn share(&self) -> Result<Proved, Memory> {
         self.share()
     }
+}
+
+/// The premises are what their proofs conclude.
+#[tactic(auto, using(crate::proofs::Premises::concluded))]
+pub(crate) fn all_conclude(world: &World, premises: &[Proved])
+    requires { AllIn world.now premises.now }
+    ensures { all_concluded world.now (trees (proofs_of premises.now)) ≡ Some (sequents_of premises.now) }
+{
+    for premise in premises {
+        let _sequent = premise.sequent();
+    }
+}
+
+#[tactic(auto, using(crate::proofs::Premises::lists))]
+fn proofs(alloc: Global, premises: &[Proved]) -> Result<Seq<Proof>, Memory>
+    ensures { IfOk result (λ ps. ps ≡ proofs_of premises.now) }
+{
+    let mut proofs = Seq::new(alloc);
+    for premise in premises {
+        proofs.push(premise.proof.share()?)?;
+    }
+    Ok(proofs)
+}
+
+fn both(alloc: Global, p: &Proved, q: &Proved) -> Result<Seq<Proof>, Memory>
+    ensures { IfOk result (λ ps. ps ≡ p.now.proof ∷ q.now.proof ∷ []) }
+{
+    let mut proofs = Seq::new(alloc);
+    proofs.push(p.proof.share()?)?;
+    proofs.push(q.proof.share()?)?;
+    Ok(proofs)
 }

@@ -7,14 +7,35 @@ ghost use Rattle.terms.specs.Terms.{same_tm, tms};
 ghost use Rattle.terms.specs.Paths.{part_at, put_part};
 ghost use Rattle.terms.specs.Worlds.{Distinct};
 ghost use Rattle.kernel.specs.Rules.{join, equation, sides_of, of_goal, joined, reflexive, replaced, body_at, called, unfolded};
-ghost use Rattle.kernel.specs.Answers.{SaysSequent};
+ghost use Rattle.kernel.specs.Conclude.{conclude, code_of};
+ghost use Rattle.kernel.specs.Conclusion.{sequents_of};
+ghost use Rattle.kernel.specs.Answers.{SaysSequent, SaysStep};
 
 use crate::errors::RuleError;
 use crate::fitting::fits;
+use crate::proved::Proved;
 use lisp_data::{Memory, Seq, Symbol, SymbolError};
+use proof_objects::Step;
 use std::alloc::Global;
 use terms::{Definition, Node, Path, Sequent, Subst, Term, Terms, at_path, put_at, substitute};
 use worlds::World;
+
+/// What a step concludes from the premises: a line for each rule.
+pub(crate) fn conclude(
+    alloc: Global,
+    world: &World,
+    step: &Step,
+    premises: &[Proved],
+) -> Result<Sequent, RuleError>
+    ensures { SaysStep (conclude world.now step.now (sequents_of premises.now)) (code_of world.now step.now) result }
+{
+    match (step, premises) {
+        (Step::Refl(a), []) => reflexive(alloc, world, a),
+        (Step::Replace(path), [eq, on]) => replaced(alloc, eq.sequent(), on.sequent(), path),
+        (Step::Unfold(call), []) => unfolded(alloc, world, call),
+        _ => Err(RuleError::Refused),
+    }
+}
 
 /// Reflexivity: the term equals itself.
 pub(crate) fn reflexive(alloc: Global, world: &World, term: &Term) -> Result<Sequent, RuleError>

@@ -5,7 +5,7 @@ ghost use Rattle.terms.specs.Measures.{call1, call2};
 
 use super::*;
 use lisp_data::{Seq, Symbol};
-use proof_objects::{Proof, ProofNode};
+use proof_objects::{Proof, Rule, Step};
 use std::alloc::Global;
 use std::test::Fail;
 use terms::{Definition, Path, Term};
@@ -85,14 +85,14 @@ fn proves_and_checks(rt: HostRuntime) -> Result<(), Fail> {
 fn finds_the_first_bad_node(rt: HostRuntime) -> Result<(), Fail> {
     let alloc = rt.alloc();
     let world = World::initial(alloc)?;
-    let good = Proof::new(alloc, ProofNode::Refl(x(alloc)?))?;
-    let bad = Proof::new(alloc, ProofNode::Unfold(x(alloc)?))?;
-    let path = Path::new(alloc);
-    let both = Proof::new(alloc, ProofNode::Replace(good, bad, path))?;
+    let mut subproofs = Seq::new(alloc);
+    subproofs.push(Proof::new(alloc, Step::Refl(x(alloc)?), Seq::new(alloc))?)?;
+    subproofs.push(Proof::new(alloc, Step::Unfold(x(alloc)?), Seq::new(alloc))?)?;
+    let both = Proof::new(alloc, Step::Replace(Path::new(alloc)), subproofs)?;
     let answer = check(alloc, &world, &both).map(|_| ());
     let expected = CheckError::ProofWrong {
         node: 2,
-        rule: RuleName::Rule(4),
+        rule: RuleName::Rule(Rule::Unfold),
     };
     assert_eq!(rt; answer, Err(expected));
     Ok(())

@@ -8,6 +8,7 @@ use Rattle.std.specs.Prelude.{FitsSigned}
 use Rattle.std.specs.Char.{is_ascii_digit, digit_value}
 use Rattle.std.specs.Str.Parse.{IsNumeral, AllDigits, signed_digits_value, without_leading_sign}
 use Rattle.lisp_data.specs.Atoms.{Shape, Start, Sign, Whole, Slash, Ratio, Bare, Pointed, Part, Exponent, ExponentSign, Power, NoNumber, Integer, Point, Wrong, is_sign, is_exponent, grown, after_digit, after_other, shape_of, integer, is_odd, worded, leaf}
+use Rattle.lisp_data.specs.declared.code.Code.TheVariants.{BadByte, BadDot, IntegerTooWide, BookTooLong}
 
 or-nothing : (a b : Bool) → (a || b) ≡ (a || (true && b))
 or-nothing true b = refl
@@ -26,8 +27,8 @@ is_odd-at (x ∷ y ∷ xs) h =
 
 pub ruleset odd = (is_odd-at)
 
-pub leaf-is : (cut : Bool) (r : List ℕ) → leaf cut r ≡ cond (is_odd r) (cond (cut && nat_eq (length r) 1) (Wrong 8 1) (Wrong 1 0))
-    (cond (list_all (λ b. nat_eq b 46) r) (cond cut (Wrong 8 (length r)) (cond (nat_eq (length r) 1) Point (Wrong 4 0))) (worded cut r (position (λ b. nat_eq b 58) (drop 1 r))))
+pub leaf-is : (cut : Bool) (r : List ℕ) → leaf cut r ≡ cond (is_odd r) (cond (cut && nat_eq (length r) 1) (Wrong BookTooLong 1) (Wrong BadByte 0))
+    (cond (list_all (λ b. nat_eq b 46) r) (cond cut (Wrong BookTooLong (length r)) (cond (nat_eq (length r) 1) Point (Wrong BadDot 0))) (worded cut r (position (λ b. nat_eq b 58) (drop 1 r))))
 unfolding leaf
 leaf-is cut r = refl
 
@@ -124,18 +125,18 @@ pub numeral : (r : List ℕ) → shape_of r ≡ Whole → IsNumeral 10 (without_
 numeral [] h = cc
 numeral (b ∷ t) h = start-more b t (is_ascii_digit b) (is_sign b) refl refl h
 
-wide-at : (z : ℤ) → ¬ (FitsSigned w128 z) → Wrong 6 0 ≡ integer z
+wide-at : (z : ℤ) → ¬ (FitsSigned w128 z) → Wrong IntegerTooWide 0 ≡ integer z
 wide-at (pos n) h = on (nat_lt n (2 ^ 127)) refl
   where
-    on : (c : Bool) → nat_lt n (2 ^ 127) ≡ c → Wrong 6 0 ≡ cond c (Integer (pos n)) (Wrong 6 0)
+    on : (c : Bool) → nat_lt n (2 ^ 127) ≡ c → Wrong IntegerTooWide 0 ≡ cond c (Integer (pos n)) (Wrong IntegerTooWide 0)
     on true e = absurd (h (record { sfits = ltb-true n (2 ^ 127) e }))
     on false e = refl
 wide-at (negsuc n) h = on (nat_lt n (2 ^ 127)) refl
   where
-    on : (c : Bool) → nat_lt n (2 ^ 127) ≡ c → Wrong 6 0 ≡ cond c (Integer (negsuc n)) (Wrong 6 0)
+    on : (c : Bool) → nat_lt n (2 ^ 127) ≡ c → Wrong IntegerTooWide 0 ≡ cond c (Integer (negsuc n)) (Wrong IntegerTooWide 0)
     on true e = absurd (h (record { sfits = ltb-true n (2 ^ 127) e }))
     on false e = refl
 
 -- a numeral that is no i128 is too wide
-pub too_wide : (r : List ℕ) → shape_of r ≡ Whole → ¬ (IsNumeral 10 (without_leading_sign r) × FitsSigned w128 (signed_digits_value 10 r)) → Wrong 6 0 ≡ integer (signed_digits_value 10 r)
+pub too_wide : (r : List ℕ) → shape_of r ≡ Whole → ¬ (IsNumeral 10 (without_leading_sign r) × FitsSigned w128 (signed_digits_value 10 r)) → Wrong IntegerTooWide 0 ≡ integer (signed_digits_value 10 r)
 too_wide r h k = wide-at (signed_digits_value 10 r) (λ f. k (numeral r h, f))

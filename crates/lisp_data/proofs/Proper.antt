@@ -1,5 +1,7 @@
 -- Proper forms that are seen alike are written alike.
-use Rattle.std.proofs.Common.{◌≡◌, ◌<◌, ◌++◌, zero, suc, length, get_or, arith, Option, Some, None, ℕ, ℤ, List, [], ◌∷◌, refl, ap, sym, subst, ◌∙◌, Global}
+use Rattle.std.proofs.Common.{◌≡◌, ◌<◌, ◌++◌, zero, suc, length, get_or, arith, Option, Some, None, ℕ, ℤ, List, [], ◌∷◌, refl, ap, sym, subst, ◌∙◌, Global, IfSome, nat_lt, ltb-true}
+use Rattle.std.specs.Option.{is_some}
+use denote.Ref.{Bor}
 use Rattle.std.proofs.lemmas.List.{length-map, length-append}
 use Rattle.std.specs.declared.rc.Rc.{Rc}
 use Rattle.lisp_data.specs.Datum.{Datum, PairForm, chain}
@@ -181,5 +183,10 @@ proper-end fs t r e h = (subst EndIsProper e (proper-list fs t h).last).0
 -- an item that is copied
 pub proper-more : (xs : List Form) (i : ℕ) (x : Form) → i < length xs → x ≡ get_or xs i x → AllProper xs → IsProper x
 proper-more xs i x h e p = subst IsProper (sym e) (proper-at xs i x h p)
+
+-- what is found at a place of proper forms is proper
+pub found-proper : (xs : List Form) (i : ℕ) (r : Option (Bor Form)) → is_some r ≡ nat_lt i (length xs) → IfSome r (λ f. f.now ≡ get_or xs i f.now) → IfSome r (λ f. AllProper xs → IsProper f.now)
+found-proper xs i None some is = tt
+found-proper xs i (Some f) some is = λ p. proper-more xs i f.now (ltb-true i (length xs) (sym some)) is p
 
 pub ruleset copies = (form_of-int, form_of-sym, form_of-text, form_of-list, form_of-dotted, proper-int, proper-sym, proper-text, proper-more)

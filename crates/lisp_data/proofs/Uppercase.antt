@@ -10,6 +10,7 @@ use Rattle.std.specs.Str.Parse.{signed_digits_value}
 use Rattle.lisp_data.specs.Atoms.{Shape, Start, Sign, Whole, Slash, Ratio, Bare, Pointed, Part, Exponent, ExponentSign, Power, NoNumber, Leaf, Integer, Named, Point, Wrong, is_delimiter, in_atom, is_sign, is_exponent, grown, after_digit, after_other, shape_of, is_odd, integer, is_narrow, symbol, shaped, worded, leaf}
 use Rattle.std.specs.Cmp.Lexicographic.{bytes_decides}
 use Rattle.lisp_data.specs.SymbolText.{NamesSymbol, IsSymbolText, is_named, is_symbol_text}
+use Rattle.lisp_data.specs.declared.code.Code.TheVariants.{BadByte, BadDot, IntegerTooWide, SymbolTooLong}
 
 same-byte : (b k : ℕ) → k < 65 → nat_eq (up b) k ≡ nat_eq b k
 same-byte b k h = grind (arith, nat_tests)
@@ -90,11 +91,11 @@ same-atom (b ∷ t) h =
 -- an atom, from what its cases ask
 later_part : Option ℕ → Shape → List ℕ → Leaf
 later_part None shape r = shaped false r shape
-later_part (Some i) shape r = cond (nat_lt i 255) (Wrong 1 (i + 1)) (Wrong 9 255)
+later_part (Some i) shape r = cond (nat_lt i 255) (Wrong BadByte (i + 1)) (Wrong SymbolTooLong 255)
 
 parts : Bool → Bool → ℕ → Option ℕ → Shape → List ℕ → Leaf
-parts true points len o shape r = Wrong 1 0
-parts false true len o shape r = cond (nat_eq len 1) Point (Wrong 4 0)
+parts true points len o shape r = Wrong BadByte 0
+parts false true len o shape r = cond (nat_eq len 1) Point (Wrong BadDot 0)
 parts false false len o shape r = later_part o shape r
 
 worded-parts : (r : List ℕ) (o : Option ℕ) → worded false r o ≡ later_part o (shape_of r) r
@@ -106,7 +107,7 @@ leaf-parts : (r : List ℕ) → leaf false r ≡ parts (is_odd r) (list_all (λ 
 unfolding leaf parts
 leaf-parts r = on (is_odd r) (list_all (λ b. nat_eq b 46) r)
   where
-    on : (odd points : Bool) → cond odd (Wrong 1 0) (cond points (cond (nat_eq (length r) 1) Point (Wrong 4 0)) (worded false r (position (λ b. nat_eq b 58) (drop 1 r))))
+    on : (odd points : Bool) → cond odd (Wrong BadByte 0) (cond points (cond (nat_eq (length r) 1) Point (Wrong BadDot 0)) (worded false r (position (λ b. nat_eq b 58) (drop 1 r))))
         ≡ parts odd points (length r) (position (λ b. nat_eq b 58) (drop 1 r)) (shape_of r) r
     on true points = refl
     on false true = refl
@@ -120,16 +121,16 @@ raised-parts r =
 integer-apart : (z : ℤ) (s : List ℕ) → integer z ≡ Named s → ⊥
 integer-apart z s h = on (is_narrow z) h
   where
-    on : (c : Bool) → cond c (Integer z) (Wrong 6 0) ≡ Named s → ⊥
+    on : (c : Bool) → cond c (Integer z) (Wrong IntegerTooWide 0) ≡ Named s → ⊥
     on true e = cc
     on false e = cc
 
 symbol-named : (r s q : List ℕ) → length q ≡ length r → symbol false r ≡ Named s → (s ≡ map up r) × (symbol false q ≡ Named (map up q))
 symbol-named r s q n h = on (nat_lt 255 (length r)) refl h
   where
-    on : (c : Bool) → nat_lt 255 (length r) ≡ c → cond c (Wrong 9 255) (Named (map up r)) ≡ Named s → (s ≡ map up r) × (symbol false q ≡ Named (map up q))
+    on : (c : Bool) → nat_lt 255 (length r) ≡ c → cond c (Wrong SymbolTooLong 255) (Named (map up r)) ≡ Named s → (s ≡ map up r) × (symbol false q ≡ Named (map up q))
     on true e k = cc
-    on false e k = (cc, ap (λ m. cond (nat_lt 255 m) (Wrong 9 255) (Named (map up q))) n ∙ ap (λ c. cond c (Wrong 9 255) (Named (map up q))) e)
+    on false e k = (cc, ap (λ m. cond (nat_lt 255 m) (Wrong SymbolTooLong 255) (Named (map up q))) n ∙ ap (λ c. cond c (Wrong SymbolTooLong 255) (Named (map up q))) e)
 
 shaped-named : (shape : Shape) (r s q : List ℕ) → length q ≡ length r → shaped false r shape ≡ Named s → (s ≡ map up r) × (shaped false q shape ≡ Named (map up q))
 shaped-named Start r s q n h = symbol-named r s q n h
@@ -150,7 +151,7 @@ unfolding later_part
 later-named None shape r s q n h = shaped-named shape r s q n h
 later-named (Some i) shape r s q n h = on (nat_lt i 255) h
   where
-    on : (c : Bool) → cond c (Wrong 1 (i + 1)) (Wrong 9 255) ≡ Named s → (s ≡ map up r) × (cond (nat_lt i 255) (Wrong 1 (i + 1)) (Wrong 9 255) ≡ Named (map up q))
+    on : (c : Bool) → cond c (Wrong BadByte (i + 1)) (Wrong SymbolTooLong 255) ≡ Named s → (s ≡ map up r) × (cond (nat_lt i 255) (Wrong BadByte (i + 1)) (Wrong SymbolTooLong 255) ≡ Named (map up q))
     on true e = cc
     on false e = cc
 
@@ -160,7 +161,7 @@ unfolding parts
 parts-named true points len o shape r s q n h = cc
 parts-named false true len o shape r s q n h = on (nat_eq len 1) h
   where
-    on : (c : Bool) → cond c Point (Wrong 4 0) ≡ Named s → (s ≡ map up r) × (cond (nat_eq len 1) Point (Wrong 4 0) ≡ Named (map up q))
+    on : (c : Bool) → cond c Point (Wrong BadDot 0) ≡ Named s → (s ≡ map up r) × (cond (nat_eq len 1) Point (Wrong BadDot 0) ≡ Named (map up q))
     on true e = cc
     on false e = cc
 parts-named false false len o shape r s q n h = later-named o shape r s q n h

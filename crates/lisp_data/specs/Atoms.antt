@@ -3,7 +3,8 @@ use Rattle.std.specs.Prelude.{ℕ, ◌+◌, ◌^◌, ℤ, pos, negsuc, Bool, tru
 use Rattle.std.specs.List.{fold, list_all, position}
 use Rattle.std.specs.Char.{is_ascii_digit, to_ascii_uppercase}
 use Rattle.std.specs.Str.Parse.{signed_digits_value}
-use Rattle.lisp_data.specs.declared.fault.TheConstants.{BAD_BYTE, BAD_DOT, BAD_NUMBER, INTEGER_TOO_WIDE, BOOK_TOO_LONG, SYMBOL_TOO_LONG}
+use Rattle.lisp_data.specs.declared.code.Code.{Code}
+use Rattle.lisp_data.specs.declared.code.Code.TheVariants.{BadByte, BadDot, BadNumber, IntegerTooWide, BookTooLong, SymbolTooLong}
 
 -- ( ) " ' ; , | \ and the backquote
 unfoldable pub is_delimiter : ℕ → Bool
@@ -71,7 +72,7 @@ pub data Leaf : Type 0 where
   Integer : ℤ → Leaf
   Named : List ℕ → Leaf
   Point : Leaf
-  Wrong : ℕ → ℕ → Leaf
+  Wrong : Code → ℕ → Leaf
 
 -- from -2^127 to 2^127 - 1
 abbrev pub is_narrow : ℤ → Bool
@@ -79,27 +80,27 @@ is_narrow (pos n) = nat_lt n (2 ^ 127)
 is_narrow (negsuc n) = nat_lt n (2 ^ 127)
 
 abbrev pub integer : ℤ → Leaf
-integer z = if is_narrow z then Integer z else Wrong INTEGER_TOO_WIDE 0
+integer z = if is_narrow z then Integer z else Wrong IntegerTooWide 0
 
 -- `cut`: the atom reaches the end of the bytes, and the book goes on past them
 abbrev pub symbol : Bool → List ℕ → Leaf
-symbol cut r = if nat_lt 255 (length r) then Wrong SYMBOL_TOO_LONG 255 else if cut then Wrong BOOK_TOO_LONG (length r) else Named (map to_ascii_uppercase r)
+symbol cut r = if nat_lt 255 (length r) then Wrong SymbolTooLong 255 else if cut then Wrong BookTooLong (length r) else Named (map to_ascii_uppercase r)
 
 -- an atom whose shape is known
 abbrev pub shaped : Bool → List ℕ → Shape → Leaf
 shaped cut r NoNumber = symbol cut r
-shaped true r _ = Wrong BOOK_TOO_LONG (length r)
+shaped true r _ = Wrong BookTooLong (length r)
 shaped false r Whole = integer (signed_digits_value 10 r)
-shaped false r Ratio = Wrong BAD_NUMBER 0
-shaped false r Pointed = Wrong BAD_NUMBER 0
-shaped false r Part = Wrong BAD_NUMBER 0
-shaped false r Power = Wrong BAD_NUMBER 0
+shaped false r Ratio = Wrong BadNumber 0
+shaped false r Pointed = Wrong BadNumber 0
+shaped false r Part = Wrong BadNumber 0
+shaped false r Power = Wrong BadNumber 0
 shaped false r _ = symbol false r
 
 -- an atom that begins with no number sign, isn't the colon alone nor all points; the place of a colon past its first byte, counted from the second
 abbrev pub worded : Bool → List ℕ → Option ℕ → Leaf
 worded cut r None = shaped cut r (shape_of r)
-worded cut r (Some i) = if nat_lt i 255 then Wrong BAD_BYTE (i + 1) else Wrong SYMBOL_TOO_LONG 255
+worded cut r (Some i) = if nat_lt i 255 then Wrong BadByte (i + 1) else Wrong SymbolTooLong 255
 
 -- begins with a number sign, or is the colon alone
 abbrev pub is_odd : List ℕ → Bool
@@ -110,6 +111,6 @@ is_odd (b ∷ c ∷ t) = nat_eq b 35
 -- what an atom is
 unfoldable pub leaf : Bool → List ℕ → Leaf
 leaf cut r =
-    if is_odd r then (if cut && nat_eq (length r) 1 then Wrong BOOK_TOO_LONG 1 else Wrong BAD_BYTE 0)
-    else if list_all (λ b. nat_eq b 46) r then (if cut then Wrong BOOK_TOO_LONG (length r) else if nat_eq (length r) 1 then Point else Wrong BAD_DOT 0)
+    if is_odd r then (if cut && nat_eq (length r) 1 then Wrong BookTooLong 1 else Wrong BadByte 0)
+    else if list_all (λ b. nat_eq b 46) r then (if cut then Wrong BookTooLong (length r) else if nat_eq (length r) 1 then Point else Wrong BadDot 0)
     else worded cut r (position (λ b. nat_eq b 58) (drop 1 r))

@@ -7,9 +7,7 @@ ghost use Rattle.std.specs.Str.Parse.{signed_digits_value};
 ghost use Rattle.lisp_data.specs.Atoms as spec;
 ghost use Rattle.lisp_data.specs.AtomView.{seen_shape, leaf_of, IsNear};
 
-use crate::fault::{
-    BAD_BYTE, BAD_DOT, BAD_NUMBER, BOOK_TOO_LONG, INTEGER_TOO_WIDE, SYMBOL_TOO_LONG,
-};
+use crate::code::Code;
 
 /// What an atom is.
 #[derive(Clone, Copy, Debug, PartialEq, Eq)]
@@ -19,8 +17,8 @@ pub enum Atom {
     Symbol,
     /// A single point.
     Point,
-    /// No form: the code of the fault, and its place in the atom.
-    Wrong(u8, usize),
+    /// No form: the fault's code, and its place in the atom.
+    Wrong(Code, usize),
 }
 
 /// How far an atom has the form of a number.
@@ -161,7 +159,7 @@ fn integer(numeral: &str) -> Atom
 {
     match numeral.parse::<i128>() {
         Ok(number) => Atom::Integer(number),
-        Err(_) => Atom::Wrong(INTEGER_TOO_WIDE, 0),
+        Err(_) => Atom::Wrong(Code::IntegerTooWide, 0),
     }
 }
 
@@ -171,9 +169,9 @@ fn symbol(text: &str, cut: bool) -> Atom
     ensures near { IsNear (length text.now) result }
 {
     if text.len() > 255 {
-        Atom::Wrong(SYMBOL_TOO_LONG, 255)
+        Atom::Wrong(Code::SymbolTooLong, 255)
     } else if cut {
-        Atom::Wrong(BOOK_TOO_LONG, text.len())
+        Atom::Wrong(Code::BookTooLong, text.len())
     } else {
         Atom::Symbol
     }
@@ -188,9 +186,12 @@ fn shaped(text: &str, cut: bool, shape: Shape) -> Atom
 {
     match shape {
         Shape::NoNumber => symbol(text, cut),
-        _ if cut => Atom::Wrong(BOOK_TOO_LONG, text.len()),
+        _ if cut => Atom::Wrong(Code::BookTooLong, text.len()),
         Shape::Whole => integer(text),
-        Shape::Ratio | Shape::Pointed | Shape::Part | Shape::Power => Atom::Wrong(BAD_NUMBER, 0),
+        Shape::Ratio | Shape::Pointed | Shape::Part | Shape::Power => Atom::Wrong(
+            Code::BadNumber,
+            0,
+        ),
         _ => symbol(text, false),
     }
 }
@@ -207,23 +208,23 @@ impl Atom {
         let bytes = text.as_bytes();
         if is_odd(bytes) {
             if cut && bytes.len() == 1 {
-                return Atom::Wrong(BOOK_TOO_LONG, 1);
+                return Atom::Wrong(Code::BookTooLong, 1);
             }
-            return Atom::Wrong(BAD_BYTE, 0);
+            return Atom::Wrong(Code::BadByte, 0);
         }
         if is_all_points(bytes) {
             if cut {
-                return Atom::Wrong(BOOK_TOO_LONG, bytes.len());
+                return Atom::Wrong(Code::BookTooLong, bytes.len());
             }
             return if bytes.len() == 1 {
                 Atom::Point
             } else {
-                Atom::Wrong(BAD_DOT, 0)
+                Atom::Wrong(Code::BadDot, 0)
             };
         }
         match late_colon(bytes) {
-            Some(place) if place < 255 => Atom::Wrong(BAD_BYTE, place + 1),
-            Some(_) => Atom::Wrong(SYMBOL_TOO_LONG, 255),
+            Some(place) if place < 255 => Atom::Wrong(Code::BadByte, place + 1),
+            Some(_) => Atom::Wrong(Code::SymbolTooLong, 255),
             None => shaped(text, cut, Shape::of(bytes)),
         }
     }

@@ -1,6 +1,6 @@
 //! What the line of a refusal names.
 
-ghost use Rattle.std.specs.Prelude.{◌≡◌, ◌++◌, IfOk, OnOk};
+ghost use Rattle.std.specs.Prelude.{◌≡◌, ◌++◌, IfOk, OnOk, OnErr};
 ghost use Rattle.lisp_data.specs.Details.{detail_text};
 
 use crate::symbol::Symbol;
@@ -41,9 +41,10 @@ impl Detail {
         }
     }
 
-    /// Writes the detail at the end of a text. Where there is no memory a part of it may be there.
+    /// Writes the detail at the end of a text. Where there is no memory the text is as before.
     pub fn write(&self, alloc: Global, out: &mut Text) -> Result<(), Memory>
-        ensures { OnOk result (out.new ≡ out.old ++ detail_text self.now) }
+        ensures ok { OnOk result (out.new ≡ out.old ++ detail_text self.now) }
+        ensures err { OnErr result (out.new ≡ out.old) }
     {
         match self {
             Detail::Absent => Ok(()),

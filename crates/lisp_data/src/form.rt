@@ -1,6 +1,6 @@
 //! Forms.
 
-ghost use Rattle.std.specs.Prelude.{◌≡◌, [], ◌∷◌, ◌++◌, ◌<◌, length, map, slice_get, IfOk, IfNone, OnOk, OnErr, OnSome, IsTrue};
+ghost use Rattle.std.specs.Prelude.{◌≡◌, [], ◌∷◌, ◌++◌, ◌<◌, length, map, slice_get, IfOk, IfSome, IfNone, OnOk, OnErr, OnSome, IsTrue};
 ghost use Rattle.std.specs.Option.{option_map, option_copied};
 ghost use Rattle.lisp_data.specs.Datum.{IntForm, SymForm, TextForm, PairForm, nil_form, chain};
 ghost use Rattle.lisp_data.specs.FormView.{form_of, forms_of, items_of, end_of, IsEnd, IsProper, AllProper, AreProper, EndIsProper};
@@ -51,7 +51,8 @@ impl Forms {
     }
 
     pub fn get(&self, place: usize) -> Option<&Form>
-        ensures { option_map form_of (option_copied result) ≡ slice_get (forms_of self.now) place }
+        ensures form { option_map form_of (option_copied result) ≡ slice_get (forms_of self.now) place }
+        ensures proper { IfSome result (λ f. AreProper self.now → IsProper f.now) }
     {
         self.items.get(place)
     }
@@ -62,6 +63,7 @@ impl Forms {
         ensures ok { OnOk result (forms_of self.new ≡ forms_of self.old ++ form_of item ∷ []) }
         ensures err { OnErr result (forms_of self.new ≡ forms_of self.old) }
         ensures proper { OnOk result (AreProper self.old → IsProper item → AreProper self.new) }
+        ensures kept { OnErr result (AreProper self.old → AreProper self.new) }
     {
         match self.items.push(item) {
             Ok(()) => Ok(()),
@@ -75,6 +77,7 @@ impl Forms {
         ensures ok { OnOk result (forms_of self.new ≡ forms_of self.old ++ forms_of rest) }
         ensures err { OnErr result (forms_of self.new ≡ forms_of self.old) }
         ensures proper { OnOk result (AreProper self.old → AreProper rest → AreProper self.new) }
+        ensures kept { OnErr result (AreProper self.old → AreProper self.new) }
     {
         match self.items.append(&mut rest.items) {
             Ok(()) => Ok(()),

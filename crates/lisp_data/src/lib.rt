@@ -4,7 +4,6 @@
 mod atom;
 mod code;
 mod detail;
-mod fault;
 mod form;
 mod symbol;
 #[cfg(test)]
@@ -14,10 +13,6 @@ mod value;
 pub use atom::{Atom, in_atom};
 pub use code::Code;
 pub use detail::Detail;
-pub use fault::{
-    BAD_BYTE, BAD_DOT, BAD_NUMBER, BOOK_TOO_LONG, INTEGER_TOO_WIDE, STRAY_CLOSE, SYMBOL_TOO_LONG,
-    TOO_DEEP, UNCLOSED_LIST, UNCLOSED_TEXT,
-};
 pub use form::{Form, Forms};
 pub use lists::{Bytes, Memory, Seq, Share, Text};
 pub use symbol::{Symbol, SymbolError};

@@ -1,3 +1,5 @@
+//! Tests of symbols, details, values and forms.
+
 use super::*;
 use std::alloc::Global;
 use std::test::Fail;

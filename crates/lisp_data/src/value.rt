@@ -1,3 +1,5 @@
+//! Values, which share their parts.
+
 ghost use Rattle.std.specs.Prelude.{◌≡◌, ◌↔◌, ◌≤◌, IsTrue, IfOk};
 ghost use Rattle.std.specs.Option.{option_map, option_copied};
 ghost use Rattle.lisp_data.specs.Values.{Val, path, pairs, car_of, cdr_of, same_val, IsSmall};
@@ -76,6 +78,20 @@ impl PairNode {
         ensures { val_of result.now ≡ self.now.1 }
     {
         &self.cdr
+    }
+
+    /// An equal pair, which shares the parts of this one.
+    pub fn copy(&self, _alloc: Global) -> Result<PairNode, Memory>
+        ensures { IfOk result (λ p. p ≡ self.now) }
+    {
+        let car = self.car.share()?;
+        let cdr = self.cdr.share()?;
+        Ok(PairNode {
+            car,
+            cdr,
+            path: self.path,
+            pairs: self.pairs,
+        })
     }
 }
 

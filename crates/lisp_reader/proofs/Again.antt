@@ -12,7 +12,7 @@ use Rattle.lisp_data.specs.Atoms.{Leaf, Integer, Named, Point, Wrong, in_atom, i
 use Rattle.lisp_data.specs.SymbolText.{IsSymbolText}
 use Rattle.lisp_reader.specs.Spans as s
 use Rattle.lisp_reader.specs.Spans.{Front, Nothing, Gap, EndlessGap, Open, Close, Quote, Text, EndlessText, Atom, Stray, run, later, string, unescaped, escapes, is_blank, opens, opens_block, front, begins, is_gap, gaps_from, gaps, behind}
-use Rattle.lisp_reader.specs.Grammar.{Read, Got, Bad, shift, mapped, and_then, quote_form, Points, Item, leaf_at, leaf_read, leaf_kind, one_by, kind_of, kind, closing_by, closing, last_by, last, items, form, next_form, before, book, parse}
+use Rattle.lisp_reader.specs.Grammar.{Read, Got, Bad, shift, mapped, and_then, quote_form, Points, Item, leaf_at, leaf_read, leaf_kind, one_by, kind_of, kind, closing_by, closing, last_by, last, items, form, begins_form, next_form, before, book, parse}
 use Rattle.lisp_data.specs.Values.{Val}
 use Rattle.lisp_data.specs.Values as v
 use Rattle.lisp_reader.specs.FormValue.{has_text, value}
@@ -24,6 +24,7 @@ use Rattle.lisp_reader.proofs.Numerals.{signed-leaf, signed-atom}
 use Rattle.lisp_reader.proofs.Steps.{shift-zero, list_in, mark_in, form-one, form-at}
 use Rattle.lisp_reader.proofs.Items.{items-close, items-points, items-item}
 use Rattle.lisp_reader.proofs.Book.{book-got}
+use Rattle.lisp_data.specs.declared.code.Code.TheVariants.{BadByte, BadDot, BookTooLong}
 
 -- a text with which no atom goes on
 abbrev Ends : List ℕ → Type 0
@@ -105,22 +106,22 @@ not-sharp b [] true e n = absurd (n (ap (λ x. x || nat_eq b 58) e))
 not-sharp b (c ∷ t) true e n = absurd (n e)
 
 -- an odd atom is neither an integer nor a symbol
-odd-leaf : (r : List ℕ) → is_odd r ≡ true → leaf false r ≡ Wrong 1 0
+odd-leaf : (r : List ℕ) → is_odd r ≡ true → leaf false r ≡ Wrong BadByte 0
 unfolding leaf
 odd-leaf r h =
-    ap (λ c. cond c (Wrong 1 0) (cond (list_all (λ b. nat_eq b 46) r) (cond (nat_eq (length r) 1) Point (Wrong 4 0)) (atoms.worded false r (position (λ b. nat_eq b 58) (drop 1 r))))) h
+    ap (λ c. cond c (Wrong BadByte 0) (cond (list_all (λ b. nat_eq b 46) r) (cond (nat_eq (length r) 1) Point (Wrong BadDot 0)) (atoms.worded false r (position (λ b. nat_eq b 58) (drop 1 r))))) h
 
-empty-leaf : leaf false [] ≡ Wrong 4 0
+empty-leaf : leaf false [] ≡ Wrong BadDot 0
 unfolding leaf
 empty-leaf = refl
 
 word : (text : List ℕ) (d : Datum) (l : Leaf) → list_all in_atom text ≡ true → leaf false text ≡ l → ((n : ℕ) → leaf_read false l n ≡ Got d n) → IsWord text d l
 word [] d l a e r =
-    let wrong : Wrong 4 0 ≡ l = sym empty-leaf ∙ e in
-    let read : Bad 4 0 ≡ Got d 0 = ap (λ l. leaf_read false l 0) wrong ∙ r 0 in
+    let wrong : Wrong BadDot 0 ≡ l = sym empty-leaf ∙ e in
+    let read : Bad BadDot 0 ≡ Got d 0 = ap (λ l. leaf_read false l 0) wrong ∙ r 0 in
     absurd (let k = read in cc)
 word (b ∷ t) d l a e r =
-    let odd : is_odd (b ∷ t) ≡ true → ⊥ = λ h. (let read : Bad 1 0 ≡ Got d 0 = ap (λ l. leaf_read false l 0) (sym (odd-leaf (b ∷ t) h) ∙ e) ∙ r 0 in cc) in
+    let odd : is_odd (b ∷ t) ≡ true → ⊥ = λ h. (let read : Bad BadByte 0 ≡ Got d 0 = ap (λ l. leaf_read false l 0) (sym (odd-leaf (b ∷ t) h) ∙ e) ∙ r 0 in cc) in
     record { byte = b; rest = t; split = refl; atom = a; sharp = not-sharp b t (nat_eq b 35) refl odd; means = e; reads = r }
 
 integer-word : (z : ℤ) → IsPrintable (IntForm z) → IsWord (signed_decimal z) (IntForm z) (Integer z)
@@ -140,7 +141,7 @@ leaf-item : (some : Bool) (l : Leaf) (d : Datum) → ((n : ℕ) → leaf_read fa
 leaf-item false l d r = refl
 leaf-item true (Integer z) d r = refl
 leaf-item true (Named t) d r = refl
-leaf-item true Point d r = let read : Bad 4 0 ≡ Got d 0 = r 0 in cc
+leaf-item true Point d r = let read : Bad BadDot 0 ≡ Got d 0 = r 0 in cc
 leaf-item true (Wrong c n) d r = refl
 
 word-read : (text : List ℕ) (d : Datum) (l : Leaf) (k : ℕ) → IsWord text d l → IsRead text d k
@@ -459,7 +460,7 @@ whole-book t d w =
     let some : nat_eq (length (behind t)) 0 ≡ false =
     (let long : 0 < length (behind t) = omega (arith, ap (λ k. length (drop k t)) none, w.long) in grind (arith, nat_tests)) in
     let all : n + 1 ≡ length t = omega (arith, w.long) in
-    let next : next_form false (nat_eq 10000 0) t ≡ Got d n = ap (λ c. cond c (Bad 8 (gaps t)) (form false false 200 t)) (and-false (begins (front (behind t)))) ∙ read in
+    let next : next_form false (nat_eq 10000 0) t ≡ Got d n = ap (λ c. cond c (Bad BookTooLong (gaps t)) (form false false 200 t)) (and-false (begins_form false (behind t))) ∙ read in
     book-got false 10000 0 t d n some next (omega (arith, w.long))
     ∙ ap (λ k. before false (d, 0 + k) (book false (10000 - 1) (0 + (n + 1)) 0 (drop (n + 1) t))) none
     ∙ ap (before false (d, 0)) (book-end (10000 - 1) (0 + (n + 1)) (drop (n + 1) t) (drop_all (n + 1) t (omega arith)))

@@ -3,17 +3,19 @@ use Rattle.std.proofs.Common.{◌≡◌, ℕ, zero, suc, ◌+◌, ◌-◌, ◌<�
 use Rattle.std.proofs.lemmas.List.{drop-drop}
 use Rattle.std.proofs.lemmas.Bool.Decides.{nat_tests}
 use Rattle.lisp_data.specs.Datum.{Datum}
-use Rattle.lisp_reader.specs.Spans.{front, gaps_from, gaps, behind, begins}
+use Rattle.lisp_reader.specs.Spans.{front, gaps_from, gaps, behind}
 use Rattle.lisp_reader.specs.TokenView.{seen, IsWithin}
 use Rattle.lisp_reader.specs.BookSteps.{SaysStep}
 use Rattle.lisp_reader.specs.declared.read.ReadError.{ReadError}
 use Rattle.lisp_reader.specs.declared.read.ReadError.TheVariants.{Refused}
 use Rattle.lisp_reader.specs.declared.token.Token.TheVariants as tokens
 use Rattle.lisp_reader.specs.Answers.{Answers}
-use Rattle.lisp_reader.specs.Grammar.{Read, Got, Bad, shift, form, next_form, book_and, before, book}
+use Rattle.lisp_reader.specs.Grammar.{Read, Got, Bad, shift, form, begins_form, next_form, book_and, before, book}
 use Rattle.lisp_reader.specs.declared.token.Token.{Token}
 use Rattle.lisp_reader.proofs.Steps.{behind-at, form-behind}
 use Rattle.lisp_reader.proofs.Items.{unshift}
+use Rattle.lisp_data.specs.declared.code.Code.{Code}
+use Rattle.lisp_data.specs.declared.code.Code.TheVariants.{BookTooLong}
 
 module _ (more : Bool) where
   book-skip : (left place skip : ℕ) (t : List ℕ) → skip ≤ length t → book more left place skip t ≡ book more left (place + skip) 0 (drop skip t)
@@ -26,7 +28,7 @@ module _ (more : Bool) where
       book-skip left (place + 1) k t (omega arith) ∙ ap (λ p. book more left p 0 (drop k t)) e
 
   abbrev ended : ℕ → Answers
-  ended place = ([], if more then Some (8, place) else None)
+  ended place = ([], if more then Some (BookTooLong, place) else None)
 
   book-nothing : (left at : ℕ) (t : List ℕ) → length (behind t) ≡ 0 → book more left at 0 t ≡ ended (at + gaps t)
   unfolding book gaps_from
@@ -44,7 +46,7 @@ module _ (more : Bool) where
       ap (λ c. cond c (ended (at + gaps (a ∷ t))) (book_and more (next_form more (nat_eq left 0) (a ∷ t)) at (rest t))) h
       ∙ ap (λ r. book_and more r at (rest t)) e ∙ ap (λ s. book_and more r at (rest s)) same
 
-  book-bad : (left at : ℕ) (t : List ℕ) (c n : ℕ) → nat_eq (length (behind t)) 0 ≡ false → next_form more (nat_eq left 0) t ≡ Bad c n →
+  book-bad : (left at : ℕ) (t : List ℕ) (c : Code) (n : ℕ) → nat_eq (length (behind t)) 0 ≡ false → next_form more (nat_eq left 0) t ≡ Bad c n →
       book more left at 0 t ≡ ([], Some (c, at + n))
   unfolding gaps_from
   book-bad left at [] c n h e = cc
@@ -76,29 +78,29 @@ module _ (more : Bool) where
         let some : 0 < length (behind (drop at xs)) = omega arith in
         grind (arith, nat_tests)
 
-    begins_here : begins (front (behind (drop at xs))) ≡ begins (seen token)
-    begins_here = ap (λ s. begins (front s)) (behind-at xs at place p) ∙ ap begins (sym e)
+    begins_here : begins_form more (behind (drop at xs)) ≡ begins_form more (drop place xs)
+    begins_here = ap (begins_form more) (behind-at xs at place p)
 
     pub step-nothing : length xs - place ≡ 0 → place ≤ length xs → left_here ≡ ended place
     step-nothing z le =
         let none : length (behind (drop at xs)) ≡ 0 = ap length (behind-at xs at place p) ∙ length-drop place xs ∙ z in
         book-nothing left at (drop at xs) none ∙ ap ended (sym p)
 
-    pub step-full : left ≡ 0 → place < length xs → begins (seen token) ≡ true → left_here ≡ ([], Some (8, place))
+    pub step-full : left ≡ 0 → place < length xs → begins_form more (drop place xs) ≡ true → left_here ≡ ([], Some (BookTooLong, place))
     step-full z lt b =
         let t = drop at xs in
-        let over : (begins (front (behind t)) && nat_eq left 0) ≡ true = ap (λ c. c && nat_eq left 0) (begins_here ∙ b) ∙ ap (λ n. nat_eq n 0) z in
-        book-bad left at t 8 (gaps t) (full lt) (ap (λ c. cond c (Bad 8 (gaps t)) (form more false 200 t)) over) ∙ ap (λ k. ([], Some (8, k))) (sym p)
+        let over : (begins_form more (behind t) && nat_eq left 0) ≡ true = ap (λ c. c && nat_eq left 0) (begins_here ∙ b) ∙ ap (λ n. nat_eq n 0) z in
+        book-bad left at t BookTooLong (gaps t) (full lt) (ap (λ c. cond c (Bad BookTooLong (gaps t)) (form more false 200 t)) over) ∙ ap (λ k. ([], Some (BookTooLong, k))) (sym p)
 
-    free_form : (begins (seen token) && nat_eq left 0) ≡ false → next_form more (nat_eq left 0) (drop at xs) ≡ form more false 200 (drop at xs)
+    free_form : (begins_form more (drop place xs) && nat_eq left 0) ≡ false → next_form more (nat_eq left 0) (drop at xs) ≡ form more false 200 (drop at xs)
     free_form h =
         let t = drop at xs in
-        ap (λ c. cond (c && nat_eq left 0) (Bad 8 (gaps t)) (form more false 200 t)) begins_here ∙ ap (λ c. cond c (Bad 8 (gaps t)) (form more false 200 t)) h
+        ap (λ c. cond (c && nat_eq left 0) (Bad BookTooLong (gaps t)) (form more false 200 t)) begins_here ∙ ap (λ c. cond c (Bad BookTooLong (gaps t)) (form more false 200 t)) h
 
     read_behind : shift at (form more false 200 (drop at xs)) ≡ read_here
     read_behind = form-behind more false 200 xs at place token p e
 
-    pub step-got : (last : ℕ) (x : Datum) → place < length xs → (begins (seen token) && nat_eq left 0) ≡ false → read_here ≡ Got x last → place ≤ last → last < length xs →
+    pub step-got : (last : ℕ) (x : Datum) → place < length xs → (begins_form more (drop place xs) && nat_eq left 0) ≡ false → read_here ≡ Got x last → place ≤ last → last < length xs →
         left_here ≡ before more (x, place) (book more (left - 1) (last + 1) 0 (drop (last + 1) xs))
     step-got last x lt b h le end =
         let t = drop at xs in
@@ -110,7 +112,7 @@ module _ (more : Bool) where
         ∙ ap (λ k. before more (x, at + gaps t) (book more (left - 1) k 0 (drop k xs))) far
         ∙ ap (λ k. before more (x, k) (book more (left - 1) (last + 1) 0 (drop (last + 1) xs))) (sym p)
 
-    pub step-bad : (c k : ℕ) → place < length xs → (begins (seen token) && nat_eq left 0) ≡ false → read_here ≡ Bad c k → left_here ≡ ([], Some (c, k))
+    pub step-bad : (c : Code) (k : ℕ) → place < length xs → (begins_form more (drop place xs) && nat_eq left 0) ≡ false → read_here ≡ Bad c k → left_here ≡ ([], Some (c, k))
     step-bad c k lt b h = on (form more false 200 (drop at xs)) refl (read_behind ∙ h)
       where
         on : (r : Read) → form more false 200 (drop at xs) ≡ r → shift at r ≡ Bad c k → left_here ≡ ([], Some (c, k))
@@ -121,7 +123,7 @@ module _ (more : Bool) where
             book-bad left at (drop at xs) d n (full lt) (free_form b ∙ q) ∙ λ j. ([], Some (one j, two j))
 
 -- the book is refused
-pub refuses : (more : Bool) (left : ℕ) (xs : List ℕ) (b : Answers) (x : ReadError) (code place : ℕ) → x ≡ Refused code place → b ≡ ([], Some (code, place)) → SaysStep more left xs b (Err x)
+pub refuses : (more : Bool) (left : ℕ) (xs : List ℕ) (b : Answers) (x : ReadError) (code : Code) (place : ℕ) → x ≡ Refused code place → b ≡ ([], Some (code, place)) → SaysStep more left xs b (Err x)
 refuses more left xs b x code place e h = subst (λ (y : ReadError). SaysStep more left xs b (Err y)) (sym e) h
 
 -- nothing is left of the bytes
@@ -129,15 +131,9 @@ pub nothing-left : (n : ℕ) (token : Token) → token ≡ tokens.Nothing → Is
 nothing-left n token e h = subst (λ (t : Token). IsWithin n (seen t)) e h
 
 -- a form begins, so bytes are left
-pub begins-room : (n : ℕ) (token : Token) → begins (seen token) ≡ true → IsWithin n (seen token) → 0 < n
-begins-room n tokens.Nothing b h = cc
-begins-room n tokens.EndlessGap b h = cc
-begins-room n tokens.Open b h = h
-begins-room n tokens.Close b h = cc
-begins-room n tokens.Quote b h = h
-begins-room n (tokens.Text m) b h = omega (arith, h)
-begins-room n tokens.EndlessText b h = h
-begins-room n (tokens.Atom m) b h = omega arith
-begins-room n tokens.Stray b h = cc
+pub begins-room : (more : Bool) (text : List ℕ) → begins_form more text ≡ true → 0 < length text
+unfolding front begins_form
+begins-room more [] h = cc
+begins-room more (b ∷ t) h = omega arith
 
 pub ruleset books = (step-nothing, step-full, step-got, step-bad)

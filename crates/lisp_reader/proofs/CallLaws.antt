@@ -4,9 +4,10 @@ use Rattle.lisp_data.specs.FormView.{form_of}
 use Rattle.lisp_reader.specs.Answers.{Answers}
 use Rattle.lisp_reader.specs.Calls.{Answer, Run, ReadsInOrder}
 use Rattle.lisp_reader.specs.declared.read.ReadError.TheVariants.{Refused, Memory}
+use Rattle.lisp_data.specs.declared.code.Code.{Code}
 
 -- where nothing is left, nothing more comes
-over : (old new : Answers) (e : Option (ℕ × ℕ)) (rs : List Answer) → old ≡ ([], e) → Run old rs new → new ≡ ([], e)
+over : (old new : Answers) (e : Option (Code × ℕ)) (rs : List Answer) → old ≡ ([], e) → Run old rs new → new ≡ ([], e)
 over old new e [] h r = sym r ∙ h
 over old new e (Ok (Some l) ∷ rs) h r = absurd (let step = r.1 in let both : ((form_of l.form, l.place) ∷ r.0.0, r.0.1) ≡ ([], e) = sym step ∙ h in let first = ap (λ (b : Answers). b.0) both in cc)
 over old new e (Ok None ∷ rs) h r = over r.0 new e rs (r.1.1 ∙ h) r.2

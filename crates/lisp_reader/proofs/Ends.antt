@@ -1,12 +1,15 @@
 -- How many forms a book has, and how one that goes on ends.
-use Rattle.std.proofs.Common.{◌≡◌, ℕ, zero, suc, ◌+◌, ◌-◌, ◌≤◌, Bool, true, false, ◌&&◌, nat_eq, if◌then◌else◌, List, [], ◌∷◌, length, drop, Option, Some, None, refl, sym, subst, arith}
+use Rattle.std.proofs.Common.{◌≡◌, ℕ, zero, suc, ◌+◌, ◌-◌, ◌≤◌, Bool, true, false, ◌&&◌, not, nat_eq, if◌then◌else◌, List, [], ◌∷◌, length, drop, Option, Some, None, refl, sym, subst, arith}
 use Rattle.lisp_data.specs.Datum.{Datum}
-use Rattle.lisp_data.specs.declared.fault.TheConstants.{TOO_DEEP, BOOK_TOO_LONG}
-use Rattle.lisp_reader.specs.Spans.{Front, Nothing, Gap, EndlessGap, Open, Close, Quote, Text, EndlessText, Atom, Stray, front, begins, gaps, behind}
-use Rattle.lisp_reader.specs.Grammar.{Read, Got, Bad, shift, one_by, items, quote_form, mapped, form, next_form, book_and, before, book, parse}
+use Rattle.std.proofs.lemmas.Bool.Decides.{nat_tests}
+use Rattle.lisp_data.specs.Atoms.{in_atom, is_delimiter, leaf}
+use Rattle.lisp_reader.specs.Spans.{is_blank, opens_block, Front, Nothing, Gap, EndlessGap, Open, Close, Quote, Text, EndlessText, Atom, Stray, front, begins, is_sharp, gaps, behind}
+use Rattle.lisp_reader.specs.Grammar.{Read, Got, Bad, shift, one_by, items, quote_form, mapped, form, begins_form, next_form, book_and, before, book, parse}
+use Rattle.lisp_data.specs.declared.code.Code.{Code}
+use Rattle.lisp_data.specs.declared.code.Code.TheVariants.{TooDeep, BookTooLong}
 
 abbrev Books : Type 0
-Books = List (Datum × ℕ) × Option (ℕ × ℕ)
+Books = List (Datum × ℕ) × Option (Code × ℕ)
 
 abbrev IsBad : Read → Type 0
 IsBad (Got f n) = ⊥
@@ -31,18 +34,46 @@ module _ (more : Bool) where
 
   form_bad : (inside : Bool) (depth : ℕ) (text : List ℕ) → begins (front (behind text)) ≡ false → IsBad (form more inside depth text)
   unfolding form
-  form_bad inside zero text e = shift_bad (gaps text) _ (one_bad inside (λ t. Bad TOO_DEEP 0) (λ t. Bad TOO_DEEP 0) (behind text) (front (behind text)) e)
+  form_bad inside zero text e = shift_bad (gaps text) _ (one_bad inside (λ t. Bad TooDeep 0) (λ t. Bad TooDeep 0) (behind text) (front (behind text)) e)
   form_bad inside (suc depth) text e =
       shift_bad (gaps text) _
       (one_bad inside (λ t. shift 1 (items more (form more true depth) false 0 (drop 1 t))) (λ t. shift 1 (mapped quote_form (form more true depth (drop 1 t)))) (behind text) (front (behind text)) e)
 
+  -- a number sign alone where the book goes on
+  sharp_here : (inside : Bool) (list mark : List ℕ → Read) → IsBad (one_by true inside list mark (35 ∷ []) (front (35 ∷ [])))
+  unfolding front in_atom is_delimiter is_blank opens_block leaf
+  sharp_here inside list mark = tt
+
+  sharp_one : (inside : Bool) (list mark : List ℕ → Read) (b : ℕ) → nat_eq b 35 ≡ true → more ≡ true → IsBad (one_by more inside list mark (b ∷ []) (front (b ∷ [])))
+  sharp_one inside list mark b h m =
+      let same : b ≡ 35 = grind (arith, nat_tests) in
+      subst (λ k. IsBad (one_by more inside list mark (k ∷ []) (front (k ∷ [])))) (sym same) (subst (λ c. IsBad (one_by c inside list mark (35 ∷ []) (front (35 ∷ [])))) (sym m) (sharp_here inside list mark))
+
+  sharp_any : (inside : Bool) (list mark : List ℕ → Read) (text : List ℕ) → (more && is_sharp text) ≡ true → IsBad (one_by more inside list mark text (front text))
+  sharp_any inside list mark text h = on more text refl h
+    where
+      on : (m : Bool) (t : List ℕ) → more ≡ m → (m && is_sharp t) ≡ true → IsBad (one_by more inside list mark t (front t))
+      on true [] e k = cc
+      on true (b ∷ []) e k = sharp_one inside list mark b k e
+      on true (b ∷ c ∷ t) e k = cc
+      on false t e k = cc
+
+  sharp_bad : (inside : Bool) (depth : ℕ) (text : List ℕ) → (more && is_sharp (behind text)) ≡ true → IsBad (form more inside depth text)
+  unfolding form
+  sharp_bad inside zero text h = shift_bad (gaps text) _ (sharp_any inside (λ t. Bad TooDeep 0) (λ t. Bad TooDeep 0) (behind text) h)
+  sharp_bad inside (suc depth) text h =
+      shift_bad (gaps text) _
+      (sharp_any inside (λ t. shift 1 (items more (form more true depth) false 0 (drop 1 t))) (λ t. shift 1 (mapped quote_form (form more true depth (drop 1 t)))) (behind text) h)
+
   -- no form is read where no more may come
   none_bad : (text : List ℕ) → IsBad (next_form more true text)
-  none_bad text = by_front (begins (front (behind text))) refl
+  unfolding begins_form
+  none_bad text = by_front (begins (front (behind text))) (more && is_sharp (behind text)) refl refl
     where
-      by_front : (b : Bool) → begins (front (behind text)) ≡ b → IsBad (if b && true then Bad BOOK_TOO_LONG (gaps text) else form more false 200 text)
-      by_front true e = tt
-      by_front false e = form_bad false 200 text e
+      by_front : (b c : Bool) → begins (front (behind text)) ≡ b → (more && is_sharp (behind text)) ≡ c → IsBad (if (b && not c) && true then Bad BookTooLong (gaps text) else form more false 200 text)
+      by_front true true e h = sharp_bad false 200 text h
+      by_front true false e h = tt
+      by_front false c e h = form_bad false 200 text e
 
   few_after : (left place : ℕ) (r : Read) (rest : Datum → ℕ → Books) → (nat_eq left 0 ≡ true → IsBad r) → ((f : Datum) (n : ℕ) → length (rest f n).0 ≤ suc (left - 1)) → length (book_and more r place rest).0 ≤ left
   few_after left place (Bad c n) rest none h = omega arith
@@ -55,18 +86,18 @@ module _ (more : Bool) where
   few_forms left place skip [] = omega arith
   few_forms left place (suc skip) (b ∷ t) = few_forms left (place + 1) skip t
   few_forms left place zero (b ∷ t) =
-      by_end (nat_eq (length (behind (b ∷ t))) 0) (if more then Some (BOOK_TOO_LONG, place + gaps (b ∷ t)) else None)
+      by_end (nat_eq (length (behind (b ∷ t))) 0) (if more then Some (BookTooLong, place + gaps (b ∷ t)) else None)
       (book_and more (next_form more (nat_eq left 0) (b ∷ t)) place (λ f n. before more (f, place + gaps (b ∷ t)) (book more (left - 1) (place + 1) n t)))
       (few_after left place (next_form more (nat_eq left 0) (b ∷ t)) (λ f n. before more (f, place + gaps (b ∷ t)) (book more (left - 1) (place + 1) n t)) (λ e. subst (λ n. IsBad (next_form more n (b ∷ t))) (sym e) (none_bad (b ∷ t))) (λ f n. let h = few_forms (left - 1) (place + 1) n t in omega arith))
     where
-      by_end : (c : Bool) (x : Option (ℕ × ℕ)) (y : Books) → length y.0 ≤ left → length (if c then ([], x) else y).0 ≤ left
+      by_end : (c : Bool) (x : Option (Code × ℕ)) (y : Books) → length y.0 ≤ left → length (if c then ([], x) else y).0 ≤ left
       by_end true x y h = omega arith
       by_end false x y h = h
 
 pub few : (more : Bool) (text : List ℕ) → length (parse more text).0 ≤ 10000
 few more text = few_forms more 10000 0 0 text
 
-abbrev IsThere : Option (ℕ × ℕ) → Type 0
+abbrev IsThere : Option (Code × ℕ) → Type 0
 IsThere None = ⊥
 IsThere (Some fault) = Unit {0}
 
@@ -80,7 +111,7 @@ module _ where
       by_end (nat_eq (length (behind (b ∷ t))) 0) (book_and true (next_form true (nat_eq left 0) (b ∷ t)) place (λ f n. before true (f, place + gaps (b ∷ t)) (book true (left - 1) (place + 1) n t)))
       (after (next_form true (nat_eq left 0) (b ∷ t)) (λ n. book_goes_on (left - 1) (place + 1) n t))
     where
-      by_end : (c : Bool) (y : Books) → IsThere y.1 → IsThere (if c then ([], Some (BOOK_TOO_LONG, place + gaps (b ∷ t))) else y).1
+      by_end : (c : Bool) (y : Books) → IsThere y.1 → IsThere (if c then ([], Some (BookTooLong, place + gaps (b ∷ t))) else y).1
       by_end true y h = tt
       by_end false y h = h
 

@@ -16,6 +16,8 @@ use Rattle.lisp_reader.specs.declared.token.Token.{Token}
 use Rattle.lisp_reader.specs.declared.token.Token.TheVariants as tokens
 use Rattle.lisp_reader.proofs.Steps.{shift-shift, shift-zero, shift-mapped, bad-here, seen-gap, token-gaps, behind-at, form-nil, form-behind, read-open, says-same}
 use Rattle.lisp_reader.proofs.Lists.{close-mapped, closed-mapped, closed-bad}
+use Rattle.lisp_data.specs.declared.code.Code.{Code}
+use Rattle.lisp_data.specs.declared.code.Code.TheVariants.{UnclosedList, BadDot}
 
 module _ (more : Bool) where
   items-skip : (f : List ℕ → Read) (some : Bool) (skip : ℕ) (t : List ℕ) → items more f some skip t ≡ shift skip (items more f some 0 (drop skip t))
@@ -52,7 +54,7 @@ module _ (more : Bool) where
       ∙ ap (λ m. mapped (PairForm x) (shift m (items more f true 0 (drop n t)))) plus
       ∙ ap (λ m. mapped (PairForm x) (shift (n + 1) (items more f true 0 (drop m (b ∷ t))))) next
 
-  items-bad : (f : List ℕ → Read) (some : Bool) (t : List ℕ) (c n : ℕ) → kind more some t ≡ Item → f [] ≡ Bad (at_end more 2) 0 → f t ≡ Bad c n →
+  items-bad : (f : List ℕ → Read) (some : Bool) (t : List ℕ) (c : Code) (n : ℕ) → kind more some t ≡ Item → f [] ≡ Bad (at_end more UnclosedList) 0 → f t ≡ Bad c n →
       items more f some 0 t ≡ Bad c n
   unfolding items
   items-bad f some [] c n h z r = sym z ∙ r
@@ -120,7 +122,7 @@ module _ (more : Bool) (xs : List ℕ) where
         ∙ ap (λ t. closed more xs j (mapped (chain (fs ++ f ∷ [])) (shift (i + (n + 1)) (rest t)))) (drop-drop (n + 1) i xs)
         ∙ ap (λ k. closed more xs j (mapped (chain (fs ++ f ∷ [])) (shift k (rest (drop k xs))))) far
 
-    pub list-fault : (c n : ℕ) → 0 < depth → here ≡ Item → read_here ≡ Bad c n → list_at j depth some fs i ≡ Bad c n
+    pub list-fault : (c : Code) (n : ℕ) → 0 < depth → here ≡ Item → read_here ≡ Bad c n → list_at j depth some fs i ≡ Bad c n
     list-fault c n d k r = on (form more true (200 - depth) (drop i xs)) refl (behind_gaps d ∙ r)
       where
         on : (r : Read) → form more true (200 - depth) (drop i xs) ≡ r → shift i r ≡ Bad c n → list_at j depth some fs i ≡ Bad c n
@@ -182,10 +184,10 @@ module _ (more : Bool) (xs : List ℕ) where
     last-other n =
         last-form (200 - depth) i _ (kind-at false i place token p e) (not_close n) ∙ ap (close more xs) (form-behind more true (200 - depth) xs i place token p e)
 
-    pub last-close : token ≡ tokens.Close → last_at i ≡ Bad 4 place
+    pub last-close : token ≡ tokens.Close → last_at i ≡ Bad BadDot place
     last-close c =
         let closes : kind more false (drop i xs) ≡ Closes = kind-at false i place token p e ∙ ap (λ t. kind_of more false (drop place xs) (seen t)) c in
-        ap (λ k. shift i (last_by more (form more true (200 - depth)) (drop i xs) k)) closes ∙ ap (Bad 4) (sym p)
+        ap (λ k. shift i (last_by more (form more true (200 - depth)) (drop i xs) k)) closes ∙ ap (Bad BadDot) (sym p)
 
   closes_or : (t : Token) → (t ≡ tokens.Close) ⊎ (t ≡ tokens.Close → ⊥)
   closes_or tokens.Nothing = inr (λ h. cc)
@@ -212,8 +214,8 @@ module _ (more : Bool) (xs : List ℕ) where
     no_gaps : place ≡ place + gaps (drop place xs)
     no_gaps = let z = token-gaps token (drop place xs) e in omega arith
 
-    pub tail-close : token ≡ tokens.Close → tail_at ≡ Bad 4 place
-    tail-close c = ap (λ r. closed more xs j (mapped (chain fs) r)) (last-close depth place place token no_gaps e c) ∙ closed-bad more xs j 4 place
+    pub tail-close : token ≡ tokens.Close → tail_at ≡ Bad BadDot place
+    tail-close c = ap (λ r. closed more xs j (mapped (chain fs) r)) (last-close depth place place token no_gaps e c) ∙ closed-bad more xs j BadDot place
 
     tail-other : (token ≡ tokens.Close → ⊥) → 0 < depth → tail_at ≡ closed more xs (suc j) (mapped (chain fs) read_in)
     tail-other n d =
@@ -227,7 +229,7 @@ module _ (more : Bool) (xs : List ℕ) where
         tail-other c d ∙ ap (λ r. closed more xs (suc j) (mapped (chain fs) r)) r ∙ ap (λ k. closed more xs k (Got (chain fs f) n)) next
         ∙ closed-mapped more xs (j + 1) (λ d. chain fs f) (Got nil_form n)
 
-    pub tail-fault : (c n : ℕ) → (token ≡ tokens.Close → ⊥) → 0 < depth → read_in ≡ Bad c n → tail_at ≡ Bad c n
+    pub tail-fault : (c : Code) (n : ℕ) → (token ≡ tokens.Close → ⊥) → 0 < depth → read_in ≡ Bad c n → tail_at ≡ Bad c n
     tail-fault c n o d r = tail-other o d ∙ ap (λ r. closed more xs (suc j) (mapped (chain fs) r)) r ∙ closed-bad more xs j c n
 
     -- a list behind the point: its items go on

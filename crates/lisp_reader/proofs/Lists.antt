@@ -12,6 +12,8 @@ use Rattle.lisp_reader.specs.declared.read.ReadError.{ReadError}
 use Rattle.lisp_reader.specs.declared.token.Token.{Token}
 use Rattle.lisp_reader.specs.declared.token.Token.TheVariants as tokens
 use Rattle.lisp_reader.proofs.Steps.{shift-shift, shift-mapped, bad-here, behind-at}
+use Rattle.lisp_data.specs.declared.code.Code.{Code}
+use Rattle.lisp_data.specs.declared.code.Code.TheVariants.{BadByte, UnclosedList, BadDot}
 
 mapped-shift : (n : ℕ) (h : Datum → Datum) (r : Read) → mapped h (shift n r) ≡ shift n (mapped h r)
 mapped-shift n h r = sym (shift-mapped n h r)
@@ -28,7 +30,7 @@ module _ (more : Bool) where
   closing_by-mapped h f t EndlessText = refl
   closing_by-mapped h f t (Atom n) = odd (is_odd (take (n + 1) t)) (leaf_at more t n)
     where
-      odd : (c : Bool) (l : Leaf) → cond c (leaf_fault more l) (Bad 4 0) ≡ mapped h (cond c (leaf_fault more l) (Bad 4 0))
+      odd : (c : Bool) (l : Leaf) → cond c (leaf_fault more l) (Bad BadDot 0) ≡ mapped h (cond c (leaf_fault more l) (Bad BadDot 0))
       odd true (atoms.Integer z) = refl
       odd true (atoms.Named s) = refl
       odd true atoms.Point = refl
@@ -47,7 +49,7 @@ module _ (more : Bool) where
   closed-mapped xs zero h r = refl
   closed-mapped xs (suc j) h r = ap (closed more xs j) (close-mapped xs h r) ∙ closed-mapped xs j h (close more xs r)
 
-  pub closed-bad : (xs : List ℕ) (j c n : ℕ) → closed more xs j (Bad c n) ≡ Bad c n
+  pub closed-bad : (xs : List ℕ) (j : ℕ) (c : Code) (n : ℕ) → closed more xs j (Bad c n) ≡ Bad c n
   closed-bad xs zero c n = refl
   closed-bad xs (suc j) c n = closed-bad xs j c n
 
@@ -59,7 +61,7 @@ module _ (more : Bool) where
       let less : j ≡ suc j - 1 = omega arith in
       ap (closed more xs j) e ∙ ap (λ k. closed more xs k (Got nil_form m)) less
 
-  pub closed-fault : (xs : List ℕ) (j n c m : ℕ) → 0 < j → shift (n + 1) (closing more nil_form (drop (n + 1) xs)) ≡ Bad c m → closed more xs j (Got nil_form n) ≡ Bad c m
+  pub closed-fault : (xs : List ℕ) (j n : ℕ) (c : Code) (m : ℕ) → 0 < j → shift (n + 1) (closing more nil_form (drop (n + 1) xs)) ≡ Bad c m → closed more xs j (Got nil_form n) ≡ Bad c m
   closed-fault xs zero n c m h e = absurd (omega arith)
   closed-fault xs (suc j) n c m h e = ap (closed more xs j) e ∙ closed-bad xs j c m
 
@@ -81,10 +83,10 @@ module _ (more : Bool) where
     pub close-here : seen tokens.Close ≡ front (drop place xs) → closing_here ≡ Got nil_form place
     close-here e = let n : place + 0 ≡ place = omega arith in close_by tokens.Close e ∙ ap (Got nil_form) n
 
-    pub close-nothing : seen tokens.Nothing ≡ front (drop place xs) → closing_here ≡ Bad (at_end more 2) place
+    pub close-nothing : seen tokens.Nothing ≡ front (drop place xs) → closing_here ≡ Bad (at_end more UnclosedList) place
     close-nothing e = close_by tokens.Nothing e ∙ bad-here _ place
 
-    pub close-stray : seen tokens.Stray ≡ front (drop place xs) → closing_here ≡ Bad 1 place
+    pub close-stray : seen tokens.Stray ≡ front (drop place xs) → closing_here ≡ Bad BadByte place
     close-stray e = close_by tokens.Stray e ∙ bad-here _ place
 
     pub close-endless : place ≤ length xs → seen tokens.EndlessGap ≡ front (drop place xs) → closing_here ≡ Bad (in_text more true) (length xs)
@@ -92,20 +94,20 @@ module _ (more : Bool) where
         let all : place + length (drop place xs) ≡ length xs = omega (arith, length-drop place xs) in
         close_by tokens.EndlessGap e ∙ ap (Bad (in_text more true)) all
 
-    pub close-open : seen tokens.Open ≡ front (drop place xs) → closing_here ≡ Bad 4 place
+    pub close-open : seen tokens.Open ≡ front (drop place xs) → closing_here ≡ Bad BadDot place
     close-open e = close_by tokens.Open e ∙ bad-here _ place
 
-    pub close-quote : seen tokens.Quote ≡ front (drop place xs) → closing_here ≡ Bad 4 place
+    pub close-quote : seen tokens.Quote ≡ front (drop place xs) → closing_here ≡ Bad BadDot place
     close-quote e = close_by tokens.Quote e ∙ bad-here _ place
 
-    pub close-string : (n : ℕ) → seen (tokens.Text n) ≡ front (drop place xs) → closing_here ≡ Bad 4 place
+    pub close-string : (n : ℕ) → seen (tokens.Text n) ≡ front (drop place xs) → closing_here ≡ Bad BadDot place
     close-string n e = close_by (tokens.Text n) e ∙ bad-here _ place
 
-    pub close-endless_text : seen tokens.EndlessText ≡ front (drop place xs) → closing_here ≡ Bad 4 place
+    pub close-endless_text : seen tokens.EndlessText ≡ front (drop place xs) → closing_here ≡ Bad BadDot place
     close-endless_text e = close_by tokens.EndlessText e ∙ bad-here _ place
 
     pub close-atom : (n : ℕ) → seen (tokens.Atom n) ≡ front (drop place xs) →
-        closing_here ≡ shift place (cond (is_odd (take (n + 1) (drop place xs))) (leaf_fault more (leaf_at more (drop place xs) n)) (Bad 4 0))
+        closing_here ≡ shift place (cond (is_odd (take (n + 1) (drop place xs))) (leaf_fault more (leaf_at more (drop place xs) n)) (Bad BadDot 0))
     close-atom n e = close_by (tokens.Atom n) e
 
 pub place-same : (q r : Read) (a : Result ℕ ReadError) → r ≡ q → SaysPlace q a → SaysPlace r a

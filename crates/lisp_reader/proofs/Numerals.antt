@@ -8,6 +8,7 @@ use Rattle.std.specs.Char.{is_ascii_digit, digit_value}
 use Rattle.std.specs.Fmt.{decimal, signed_decimal}
 use Rattle.std.specs.Str.Parse.{AllDigits, IsNumeral, digits_value, signed_digits_value, without_leading_sign}
 use Rattle.lisp_data.specs.Atoms.{in_atom, is_delimiter, is_sign, is_narrow, Start, Sign, Whole, Integer, Point, Wrong, grown, after_other, shape_of, integer, shaped, worded, is_odd, leaf}
+use Rattle.lisp_data.specs.declared.code.Code.TheVariants.{BadByte, BadDot, IntegerTooWide}
 
 digit-range : (b : ℕ) → digit_value b < 10 → is_ascii_digit b ≡ true
 digit-range b h = grind (arith, nat_tests)
@@ -49,9 +50,9 @@ whole-leaf : (r : List ℕ) (z : ℤ) → is_odd r ≡ false → list_all (λ b.
     signed_digits_value 10 r ≡ z → is_narrow z ≡ true → leaf false r ≡ Integer z
 unfolding leaf
 whole-leaf r z odd points colon shape value narrow =
-    ap (λ c. cond c (Wrong 1 0) (cond (list_all (λ b. nat_eq b 46) r) (cond (nat_eq (length r) 1) Point (Wrong 4 0)) (worded false r (position (λ b. nat_eq b 58) (drop 1 r))))) odd
-    ∙ ap (λ c. cond c (cond (nat_eq (length r) 1) Point (Wrong 4 0)) (worded false r (position (λ b. nat_eq b 58) (drop 1 r)))) points
-    ∙ ap (worded false r) colon ∙ ap (shaped false r) shape ∙ ap integer value ∙ ap (λ c. cond c (Integer z) (Wrong 6 0)) narrow
+    ap (λ c. cond c (Wrong BadByte 0) (cond (list_all (λ b. nat_eq b 46) r) (cond (nat_eq (length r) 1) Point (Wrong BadDot 0)) (worded false r (position (λ b. nat_eq b 58) (drop 1 r))))) odd
+    ∙ ap (λ c. cond c (cond (nat_eq (length r) 1) Point (Wrong BadDot 0)) (worded false r (position (λ b. nat_eq b 58) (drop 1 r)))) points
+    ∙ ap (worded false r) colon ∙ ap (shaped false r) shape ∙ ap integer value ∙ ap (λ c. cond c (Integer z) (Wrong IntegerTooWide 0)) narrow
 
 odd-first : (b : ℕ) (t : List ℕ) → nat_eq b 35 ≡ false → nat_eq b 58 ≡ false → is_odd (b ∷ t) ≡ false
 odd-first b [] h k = λ i. h i || k i

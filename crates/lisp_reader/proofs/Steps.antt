@@ -12,6 +12,8 @@ use Rattle.lisp_reader.specs.declared.read.ReadError.{ReadError}
 use Rattle.lisp_reader.specs.declared.token.Token.{Token}
 use Rattle.lisp_reader.specs.declared.token.Token.TheVariants as tokens
 use Rattle.lisp_reader.proofs.Pieces.{gaps-none}
+use Rattle.lisp_data.specs.declared.code.Code.{Code}
+use Rattle.lisp_data.specs.declared.code.Code.TheVariants.{BadByte, UnclosedList, StrayClose, TooDeep}
 
 pub shift-shift : (m n : ℕ) (r : Read) → shift m (shift n r) ≡ shift (m + n) r
 shift-shift m n (Got f k) = let e : m + (n + k) ≡ (m + n) + k = omega arith in ap (Got f) e
@@ -25,7 +27,7 @@ pub shift-mapped : (n : ℕ) (h : Datum → Datum) (r : Read) → shift n (mappe
 shift-mapped n h (Got f k) = refl
 shift-mapped n h (Bad c k) = refl
 
-pub bad-here : (c place : ℕ) → Bad c (place + 0) ≡ Bad c place
+pub bad-here : (c : Code) (place : ℕ) → Bad c (place + 0) ≡ Bad c place
 bad-here c place = let e : place + 0 ≡ place = omega arith in ap (Bad c) e
 
 pub seen-gap : (t : Token) → is_gap (seen t) ≡ false
@@ -48,11 +50,11 @@ behind-at xs i place p = drop-drop (gaps (drop i xs)) i xs ∙ ap (λ k. drop k 
 
 module _ (more : Bool) where
   abbrev pub list_in : ℕ → List ℕ → Read
-  list_in zero t = Bad 7 0
+  list_in zero t = Bad TooDeep 0
   list_in (suc d) t = shift 1 (items more (form more true d) false 0 (drop 1 t))
 
   abbrev pub mark_in : ℕ → List ℕ → Read
-  mark_in zero t = Bad 7 0
+  mark_in zero t = Bad TooDeep 0
   mark_in (suc d) t = shift 1 (mapped quote_form (form more true d (drop 1 t)))
 
   pub form-one : (inside : Bool) (d : ℕ) (t : List ℕ) → form more inside d t ≡ one more inside (list_in d) (mark_in d) t
@@ -60,7 +62,7 @@ module _ (more : Bool) where
   form-one inside zero t = refl
   form-one inside (suc d) t = refl
 
-  pub form-nil : (inside : Bool) (d : ℕ) → form more inside d [] ≡ Bad (at_end more 2) 0
+  pub form-nil : (inside : Bool) (d : ℕ) → form more inside d [] ≡ Bad (at_end more UnclosedList) 0
   unfolding front gaps_from
   form-nil inside d = form-one inside d []
 
@@ -89,13 +91,13 @@ module _ (more : Bool) where
         read_at ≡ shift place (one_by more (nat_lt 0 depth) (list_in (200 - depth)) (mark_in (200 - depth)) (drop place xs) (seen token))
     by_token token e = ap (shift place) (form-at (nat_lt 0 depth) (200 - depth) (drop place xs) (seen token) (token-gaps token _ e) (sym e))
 
-    pub read-nothing : seen tokens.Nothing ≡ front (drop place xs) → read_at ≡ Bad (at_end more 2) place
+    pub read-nothing : seen tokens.Nothing ≡ front (drop place xs) → read_at ≡ Bad (at_end more UnclosedList) place
     read-nothing e = by_token tokens.Nothing e ∙ bad-here _ place
 
-    pub read-close : seen tokens.Close ≡ front (drop place xs) → read_at ≡ Bad 3 place
+    pub read-close : seen tokens.Close ≡ front (drop place xs) → read_at ≡ Bad StrayClose place
     read-close e = by_token tokens.Close e ∙ bad-here _ place
 
-    pub read-stray : seen tokens.Stray ≡ front (drop place xs) → read_at ≡ Bad 1 place
+    pub read-stray : seen tokens.Stray ≡ front (drop place xs) → read_at ≡ Bad BadByte place
     read-stray e = by_token tokens.Stray e ∙ bad-here _ place
 
     all-bytes : place ≤ length xs → place + length (drop place xs) ≡ length xs
@@ -113,12 +115,12 @@ module _ (more : Bool) where
     pub read-atom : (n : ℕ) → seen (tokens.Atom n) ≡ front (drop place xs) → read_at ≡ shift place (leaf_read more (leaf_at more (drop place xs) n) n)
     read-atom n e = by_token (tokens.Atom n) e
 
-    pub read-open_last : depth ≡ 200 → seen tokens.Open ≡ front (drop place xs) → read_at ≡ Bad 7 place
+    pub read-open_last : depth ≡ 200 → seen tokens.Open ≡ front (drop place xs) → read_at ≡ Bad TooDeep place
     read-open_last d e =
         let none : 200 - depth ≡ 0 = omega arith in
         by_token tokens.Open e ∙ ap (λ k. shift place (list_in k (drop place xs))) none ∙ bad-here _ place
 
-    pub read-quote_last : depth ≡ 200 → seen tokens.Quote ≡ front (drop place xs) → read_at ≡ Bad 7 place
+    pub read-quote_last : depth ≡ 200 → seen tokens.Quote ≡ front (drop place xs) → read_at ≡ Bad TooDeep place
     read-quote_last d e =
         let none : 200 - depth ≡ 0 = omega arith in
         by_token tokens.Quote e ∙ ap (λ k. shift place (mark_in k (drop place xs))) none ∙ bad-here _ place

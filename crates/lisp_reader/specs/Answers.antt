@@ -2,6 +2,8 @@
 use Rattle.std.specs.Prelude.{◌≡◌, ℕ, List, [], ◌∷◌, Option, Some, None, Result, Ok, Err}
 use Rattle.std.specs.Coded.{Coded, coded×, coded_list, coded_option, coded_ℕ}
 use Rattle.lisp_data.specs.Datum.{Datum, datum_code}
+use Rattle.lisp_data.specs.declared.code.Code.{Code}
+use Rattle.lisp_data.specs.contracts.code.Code as code
 use Rattle.lisp_data.specs.FormView.{form_of}
 use Rattle.lisp_reader.specs.declared.reader.Located.{Located}
 use Rattle.lisp_reader.specs.declared.read.ReadError.{ReadError}
@@ -9,10 +11,10 @@ use Rattle.lisp_reader.specs.declared.read.ReadError.TheVariants.{Refused, Memor
 
 -- forms with their places, and the first fault with its place, or none
 abbrev pub Answers : Type 0
-Answers = List (Datum × ℕ) × Option (ℕ × ℕ)
+Answers = List (Datum × ℕ) × Option (Code × ℕ)
 
 abbrev pub answers_code : Coded Answers
-answers_code = coded× (coded_list (coded× datum_code coded_ℕ)) (coded_option (coded× coded_ℕ coded_ℕ))
+answers_code = coded× (coded_list (coded× datum_code coded_ℕ)) (coded_option (coded× code.the_row.coded coded_ℕ))
 
 -- a call answers the first of what is left, and leaves the rest; an end and a refusal stay, and want of memory leaves all
 abbrev pub SaysNext : Answers → Result (Option Located) ReadError → Answers → Type 0

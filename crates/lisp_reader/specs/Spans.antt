@@ -105,6 +105,12 @@ begins EndlessText = true
 begins (Atom n) = true
 begins _ = false
 
+-- a number sign alone
+abbrev pub is_sharp : List ℕ → Bool
+is_sharp [] = false
+is_sharp (b ∷ []) = nat_eq b 35
+is_sharp (b ∷ c ∷ t) = false
+
 abbrev pub is_gap : Front → Bool
 is_gap (Gap n) = true
 is_gap _ = false

@@ -16,17 +16,14 @@ ghost use Rattle.lisp_reader.specs.TokenView.{seen, IsWithin};
 ghost use Rattle.lisp_reader.specs.KindView.{seen_kind};
 
 use crate::token::{Token, next_token};
-use lisp_data::{
-    Atom, BAD_BYTE, BAD_DOT, BOOK_TOO_LONG, Bytes, Form, Forms, Memory, STRAY_CLOSE, Symbol,
-    TOO_DEEP, UNCLOSED_LIST, UNCLOSED_TEXT,
-};
+use lisp_data::{Atom, Bytes, Code, Form, Forms, Memory, Symbol};
 use std::alloc::Global;
 
 /// Why no form is read.
 #[derive(Clone, Copy, Debug, PartialEq, Eq)]
 pub enum ReadError {
     /// The first fault of the book, by its code (docs/BOOKS.md), and its place.
-    Refused { code: u8, place: u64 },
+    Refused { code: Code, place: u64 },
     Memory,
 }
 
@@ -71,7 +68,7 @@ fn joins(token: Token, depth: usize) -> bool
 }
 
 /// A refusal.
-pub fn refused(code: u8, place: usize) -> ReadError
+pub fn refused(code: Code, place: usize) -> ReadError
     ensures { result ≡ ReadError.Refused code place }
 {
     ReadError::Refused {
@@ -177,28 +174,28 @@ fn unescaped(alloc: Global, text: &[u8]) -> Result<Bytes, Memory>
 
 impl<'a> Input<'a> {
     /// The code of a fault where the bytes end.
-    fn end_code(&self, code: u8) -> u8
+    fn end_code(&self, code: Code) -> Code
         ensures { result ≡ spec.at_end self.now.more code }
     {
-        if self.more { BOOK_TOO_LONG } else { code }
+        if self.more { Code::BookTooLong } else { code }
     }
 
     /// The same where they end in a string or a block comment, which so many lists and quotes are around.
-    fn text_code(&self, depth: usize) -> u8
+    fn text_code(&self, depth: usize) -> Code
         ensures { result ≡ spec.in_text self.now.more (nat_lt 0 depth) }
     {
         self.end_code(if depth > 0 {
-            UNCLOSED_LIST
+            Code::UnclosedList
         } else {
-            UNCLOSED_TEXT
+            Code::UnclosedText
         })
     }
 
     /// The end of the bytes in a list, or where a quote waits for its form.
     fn unclosed(&self, place: usize) -> ReadError
-        ensures { result ≡ ReadError.Refused (spec.at_end self.now.more UNCLOSED_LIST) place }
+        ensures { result ≡ ReadError.Refused (spec.at_end self.now.more Code.UnclosedList) place }
     {
-        refused(self.end_code(UNCLOSED_LIST), place)
+        refused(self.end_code(Code::UnclosedList), place)
     }
 
     /// What the atom at a place is, whose last byte is the n-th.
@@ -234,7 +231,7 @@ impl<'a> Input<'a> {
                 Ok(form) => Ok((form, place + n)),
                 Err(Memory) => Err(ReadError::Memory),
             },
-            Atom::Point => Err(refused(BAD_DOT, place)),
+            Atom::Point => Err(refused(Code::BadDot, place)),
             Atom::Wrong(code, offset) => Err(refused(code, place + offset)),
         }
     }
@@ -272,13 +269,13 @@ impl<'a> Input<'a> {
     fn second_atom(&self, place: usize, n: usize) -> ReadError
         requires room { place + n < length self.now.bytes.now }
         requires atom { spans.front (drop place self.now.bytes.now) ≡ spans.Atom n }
-        ensures { SaysPlace (spec.shift place (if atoms.is_odd (take (n + 1) (drop place self.now.bytes.now)) then spec.leaf_fault self.now.more (spec.leaf_at self.now.more (drop place self.now.bytes.now) n) else spec.Bad BAD_DOT 0)) (Err result) }
+        ensures { SaysPlace (spec.shift place (if atoms.is_odd (take (n + 1) (drop place self.now.bytes.now)) then spec.leaf_fault self.now.more (spec.leaf_at self.now.more (drop place self.now.bytes.now) n) else spec.Bad Code.BadDot 0)) (Err result) }
     {
         let (text, atom) = self.leaf(place, n);
         let odd = is_odd(text.as_bytes());
         match atom {
             Atom::Wrong(code, offset) if odd => refused(code, place + offset),
-            _ => refused(BAD_DOT, place),
+            _ => refused(Code::BadDot, place),
         }
     }
 
@@ -294,10 +291,10 @@ impl<'a> Input<'a> {
             Token::Close => Ok(place),
             Token::Nothing => Err(self.unclosed(place)),
             Token::EndlessGap => Err(refused(self.text_code(1), self.bytes.len())),
-            Token::Stray => Err(refused(BAD_BYTE, place)),
+            Token::Stray => Err(refused(Code::BadByte, place)),
             Token::Atom(n) => Err(self.second_atom(place, n)),
             Token::Open | Token::Quote | Token::Text(_) | Token::EndlessText => {
-                Err(refused(BAD_DOT, place))
+                Err(refused(Code::BadDot, place))
             }
         }
     }
@@ -361,11 +358,11 @@ impl<'a> Input<'a> {
             Token::EndlessGap | Token::EndlessText => {
                 Err(refused(self.text_code(depth), self.bytes.len()))
             }
-            Token::Close => Err(refused(STRAY_CLOSE, place)),
-            Token::Stray => Err(refused(BAD_BYTE, place)),
+            Token::Close => Err(refused(Code::StrayClose, place)),
+            Token::Stray => Err(refused(Code::BadByte, place)),
             Token::Text(n) => self.string(alloc, place, n),
             Token::Atom(n) => self.atom(alloc, place, n),
-            Token::Open | Token::Quote if depth == MAX_DEPTH => Err(refused(TOO_DEEP, place)),
+            Token::Open | Token::Quote if depth == MAX_DEPTH => Err(refused(Code::TooDeep, place)),
             Token::Open => self.list(alloc, place + 1, depth + 1),
             Token::Quote => self.quoted(alloc, place + 1, depth + 1),
         }
@@ -453,7 +450,7 @@ impl<'a> Input<'a> {
         ensures within { IfOk result (λ x. (place ≤ x.1) × (x.1 < length self.now.bytes.now)) }
     {
         if let Token::Close = token {
-            return Err(refused(BAD_DOT, place));
+            return Err(refused(Code::BadDot, place));
         }
         let (form, last) = self.token_form(alloc, token, place, depth)?;
         let end = self.closings(last, joined + 1)?;

@@ -1,15 +1,17 @@
 //! The reader of books.
 
-ghost use Rattle.std.specs.Prelude.{◌≡◌, ◌≤◌, length, drop};
+ghost use Rattle.std.specs.Prelude.{◌≡◌, ◌≤◌, length, drop, IfOk};
+ghost use Rattle.lisp_data.specs.FormView.{form_of, IsProper};
 ghost use Rattle.lisp_reader.specs.Answers.{SaysNext};
 ghost use Rattle.lisp_reader.specs.BookSteps.{SaysStep, GoesOnWithin, FindsProper, StepIsProper};
+ghost use Rattle.lisp_reader.specs.Grammar as spec;
 ghost use Rattle.lisp_reader.specs.Grammar.{parse, book};
 ghost use Rattle.lisp_reader.specs.Spans as spans;
 ghost use Rattle.lisp_reader.specs.TokenView.{seen};
 
 use crate::read::{Input, ReadError, refused};
 use crate::token::{Token, next_token};
-use lisp_data::{BOOK_TOO_LONG, Form};
+use lisp_data::{Code, Form, Memory};
 use std::alloc::Global;
 use std::marker::Model;
 
@@ -25,6 +27,21 @@ impl Drop for Located {
     }
 }
 
+impl Located {
+    /// An equal form, at the same place.
+    pub fn copy(&self, alloc: Global) -> Result<Located, Memory>
+        ensures form { IfOk result (λ l. form_of l.form ≡ form_of self.now.form) }
+        ensures place { IfOk result (λ l. l.place ≡ self.now.place) }
+        ensures proper { IfOk result (λ l. IsProper self.now.form → IsProper l.form) }
+    {
+        let form = self.form.copy(alloc)?;
+        Ok(Located {
+            form,
+            place: self.place,
+        })
+    }
+}
+
 /// Reads the forms of a book, one by one. Contracts see it as what it has yet to answer: the forms with their places, and the first fault or none.
 #[derive(Drop)]
 pub struct FormReader<'a> {
@@ -36,10 +53,11 @@ pub struct FormReader<'a> {
 impl<'a> Model for FormReader<'a> {
     ghost use Rattle.std.specs.Prelude.{List, ℕ, Option, ◌≤◌, length, drop};
     ghost use Rattle.lisp_data.specs.Datum.{Datum};
+    ghost use Rattle.lisp_data.specs.declared.code.Code.{Code};
     ghost use Rattle.lisp_reader.specs.Answers.{answers_code};
     ghost use Rattle.lisp_reader.specs.Grammar.{book};
 
-    ghost Value = { List (Datum × ℕ) × Option (ℕ × ℕ) };
+    ghost Value = { List (Datum × ℕ) × Option (Code × ℕ) };
 
     ghost coded = { answers_code };
 
@@ -58,6 +76,23 @@ fn begins(token: Token) -> bool
     )
 }
 
+/// A number sign alone.
+fn is_sharp(text: &[u8]) -> bool
+    ensures { result ≡ spans.is_sharp text.now }
+{
+    matches!(text, [b'#'])
+}
+
+/// A form begins with the token at a place. A number sign alone, behind which the book goes on, may yet begin a comment.
+#[tactic(auto, unfolding(crate::specs::Grammar::begins_form))]
+fn begins_form(input: &Input, token: Token, place: usize) -> bool
+    requires inside { place ≤ length input.now.bytes.now }
+    requires token { seen token ≡ spans.front (drop place input.now.bytes.now) }
+    ensures { result ≡ spec.begins_form input.now.more (drop place input.now.bytes.now) }
+{
+    begins(token) && !(input.more && is_sharp(&input.bytes[place..]))
+}
+
 /// The form at a place of a book that may have so many more, and where to go on.
 #[tactic(auto, using(crate::proofs::Book::books))]
 fn step(
@@ -74,13 +109,13 @@ fn step(
     let (token, place) = next_token(input.bytes, at);
     if let Token::Nothing = token {
         return if input.more {
-            Err(refused(BOOK_TOO_LONG, place))
+            Err(refused(Code::BookTooLong, place))
         } else {
             Ok(None)
         };
     }
-    if left == 0 && begins(token) {
-        return Err(refused(BOOK_TOO_LONG, place));
+    if left == 0 && begins_form(input, token, place) {
+        return Err(refused(Code::BookTooLong, place));
     }
     let (form, last) = input.token_form(alloc, token, place, 0)?;
     let place = place as u64;

@@ -1,3 +1,5 @@
+//! Tests of the reader and of printed text.
+
 use crate::{FormReader, ReadError, print_form, print_value, value_of};
 use lisp_data::{Form, Text, ValueError};
 use std::test::Fail;
@@ -9,7 +11,7 @@ fn outcome(rt: &HostRuntime, text: &[u8], more: bool) -> (u32, u8, u64) {
         match reader.next(rt.alloc()) {
             Ok(Some(_)) => {}
             Ok(None) => return (forms, 0, 0),
-            Err(ReadError::Refused { code, place }) => return (forms, code, place),
+            Err(ReadError::Refused { code, place }) => return (forms, code.number(), place),
             Err(ReadError::Memory) => return (forms, 99, 0),
         }
     }

@@ -5,16 +5,21 @@ use Rattle.terms.specs.Primitives.{primitive, lookup}
 use Rattle.terms.specs.Definitions.{find}
 use Rattle.terms.specs.Worlds.{World, names, Each, IsIn, FitsSequent, Holds, arity, arity_by}
 use Rattle.terms.specs.Measures.{obligations}
-use Rattle.terms.specs.BuiltIn.{binary_append_def}
 use Rattle.terms.specs.Formed.{with_def, FitsOver, IsFormed, ObligationsHold}
-use Rattle.terms.specs.Sound.{Sound, AllHold, iso_conditions, add_definition}
+use Rattle.terms.specs.Later.{IsLater}
+use Rattle.terms.specs.Sound.{Sound, initial_world, AllHold, iso_conditions, add_definition}
 use Rattle.terms.specs.declared.definition.Definition.{Definition}
 use Rattle.terms.specs.declared.sequent.Sequent.{Sequent}
 use Rattle.terms.specs.declared.entries.Iso.{Iso}
+use Rattle.terms.specs.declared.entries.FunPair.{FunPair}
+use Rattle.terms.specs.declared.entries.Link.{Link}
+use Rattle.worlds.specs.Entries.{instance_of}
 use Rattle.terms.proofs.Names.{same_name}
-use Rattle.terms.proofs.Extend.{over_map, find_later, arity_later}
+use Rattle.terms.proofs.Extend.{over_map, arity_later}
+use Rattle.terms.proofs.Later.{has_basics}
+use Rattle.terms.proofs.LaterSteps.{grown, continued, later_definition}
 use Rattle.terms.proofs.Totality.{each_to, stays_total}
-use Rattle.terms.proofs.Growth.{obligations_fit, sequent_later, holds_later, found_later, basics_later, free_primitive, with_theorem, Inserted, inserted_here, inserted_after}
+use Rattle.terms.proofs.Growth.{obligations_fit, sequent_later, holds_later, free_primitive, with_theorem, Inserted, inserted_here, inserted_after}
 use Rattle.terms.proofs.MoreEntries.{with_variable, with_specification}
 use Rattle.worlds.proofs.Free.{free}
 use Rattle.plans.specs.declared.plan.Entry.{Entry}
@@ -38,15 +43,10 @@ with_owed W sound d ok new owed =
       distinct = (new, sound.distinct);
       unlike_primitives = λ f i. by_test f (bytes_eq d.name f) refl i;
       formed = (ok, sound.formed);
-      apart = λ x k e.
-          let h = sound.apart x k e in
-          let a : arity F x ≡ Some k = ap (λ p. arity_by p (find F.defs x) (lookup F.vars x)) h.0 ∙ ap (λ q. arity_by None q (lookup F.vars x)) h.1 ∙ e in
-          (h.0, find_later F d ok.fresh x k a ∙ h.1);
-      total = stays_total F sound.formed sound.total d ok (λ _. sound.basics) owed;
-      basics = basics_later F sound.formed d ok.fresh sound.basics;
-      append = found_later F sound.formed d ok.fresh (codes "BINARY-APPEND") binary_append_def sound.append;
+      total = stays_total F sound.formed sound.total d ok (λ _. has_basics W sound) owed;
+      later = later_definition initial_world W sound.later d;
       obligations = (
-        each_with (FitsSequent F) (Holds F) (λ s. FitsSequent (with_def F d) s × Holds (with_def F d) s) later (obligations d) (obligations_fit F sound.formed sound.basics d ok) owed,
+        each_with (FitsSequent F) (Holds F) (λ s. FitsSequent (with_def F d) s × Holds (with_def F d) s) later (obligations d) (obligations_fit F sound.formed (has_basics W sound) d ok) owed,
         each_to (λ e. AllHold F (obligations e)) (λ e. AllHold (with_def F d) (obligations e)) (λ e h. all_later (obligations e) h) F.defs sound.obligations,
       );
       theorems = each_to _ (λ e. (e.1.hyps ≡ []) × FitsSequent (with_def F d) e.1 × Holds (with_def F d) e.1) (λ e h. let l = later e.1 h.1 h.2 in (h.0, l.0, l.1)) W.theorems sound.theorems;
@@ -71,6 +71,44 @@ with_new W sound d a =
       flat = ok.flat;
     }) f.new a.owed
 
+-- a world stays later than another with one entry more
+module _ (W V : World) (later : IsLater W V) where
+  later_iso : (i : Iso) → IsLater W (add_entry (Isomorphism i) V)
+  later_iso i = record {
+    definitions = later.definitions;
+    variables = later.variables;
+    theorems = later.theorems;
+    specifications = later.specifications;
+    isos = grown i later.isos;
+    instances = later.instances;
+    links = later.links;
+    events = later.events;
+  }
+
+  later_instance : (of : Name) (pairs : List FunPair) (instance : Name) → IsLater W (add_entry (Instance of pairs instance) V)
+  later_instance of pairs instance = record {
+    definitions = later.definitions;
+    variables = later.variables;
+    theorems = later.theorems;
+    specifications = later.specifications;
+    isos = later.isos;
+    instances = continued W.instances V.instances (instance_of of pairs instance) later.instances;
+    links = later.links;
+    events = later.events;
+  }
+
+  later_link : (n : Name) (l : Link) → IsLater W (add_entry (Chained n l) V)
+  later_link n l = record {
+    definitions = later.definitions;
+    variables = later.variables;
+    theorems = later.theorems;
+    specifications = later.specifications;
+    isos = later.isos;
+    instances = later.instances;
+    links = grown (n, l) later.links;
+    events = later.events;
+  }
+
 -- an isomorphism whose conditions hold
 with_iso : (W : World) → Sound W → (i : Iso) → primitive i.name ≡ None → (IsIn (names W) i.name → ⊥) → AllHold W.functions (iso_conditions i) → Sound (record W { isos = i ∷ W.isos })
 with_iso W sound i unlike new hold =
@@ -83,10 +121,8 @@ with_iso W sound i unlike new hold =
         | inr k ↦ sound.unlike_primitives f k
       ];
       formed = sound.formed;
-      apart = sound.apart;
       total = sound.total;
-      basics = sound.basics;
-      append = sound.append;
+      later = later_iso initial_world W sound.later i;
       obligations = sound.obligations;
       theorems = sound.theorems;
       specifications = sound.specifications;
@@ -105,10 +141,8 @@ entry_sound W sound (Instance of pairs instance) a = record {
   distinct = sound.distinct;
   unlike_primitives = sound.unlike_primitives;
   formed = sound.formed;
-  apart = sound.apart;
   total = sound.total;
-  basics = sound.basics;
-  append = sound.append;
+  later = later_instance initial_world W sound.later of pairs instance;
   obligations = sound.obligations;
   theorems = sound.theorems;
   specifications = sound.specifications;
@@ -118,10 +152,8 @@ entry_sound W sound (Chained n l) a = record {
   distinct = sound.distinct;
   unlike_primitives = sound.unlike_primitives;
   formed = sound.formed;
-  apart = sound.apart;
   total = sound.total;
-  basics = sound.basics;
-  append = sound.append;
+  later = later_link initial_world W sound.later n l;
   obligations = sound.obligations;
   theorems = sound.theorems;
   specifications = sound.specifications;

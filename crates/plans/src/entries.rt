@@ -9,7 +9,7 @@ ghost use Rattle.plans.specs.Entries.{Admits, AdmitsAll, IsBuilt, IsNewTheorem, 
 use crate::plan::Entry;
 use lisp_data::{Memory, Symbol};
 use std::alloc::Global;
-use terms::{Sequent, Specification};
+use terms::Sequent;
 use worlds::{World, WorldError};
 
 /// A larger world, whose new name is free.
@@ -24,19 +24,6 @@ fn grown(world: Result<World, WorldError>) -> Result<World, Memory>
             WorldError::Memory => Err(Memory),
         },
     }
-}
-
-fn copied(alloc: Global, specification: &Specification) -> Result<Specification, Memory>
-    ensures { IfOk result (λ s. s ≡ specification.now) }
-{
-    let name = specification.name.share()?;
-    let variables = specification.variables.copy(alloc)?;
-    let matrix = specification.matrix.share()?;
-    Ok(Specification {
-        name,
-        variables,
-        matrix,
-    })
 }
 
 fn with_new_theorem(
@@ -66,7 +53,7 @@ fn with_entry(alloc: Global, world: &World, entry: &Entry) -> Result<World, Memo
         }
         Entry::Variable(name, arity) => grown(world.with_variable(alloc, name.share()?, *arity)),
         Entry::Theorem(name, sequent) => with_new_theorem(alloc, world, name, sequent),
-        Entry::Spec(specification) => grown(world.with_spec(alloc, copied(alloc, specification)?)),
+        Entry::Spec(specification) => grown(world.with_spec(alloc, specification.copy(alloc)?)),
         Entry::Isomorphism(_) | Entry::Instance(_, _, _) | Entry::Chained(_, _) => unreachable!(),
     }
 }

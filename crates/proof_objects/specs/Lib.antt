@@ -1,2 +1,5 @@
+pub mod RuleNames
+pub mod StepRules
 pub mod ProofTrees
 pub mod ProofView
+pub mod ProofFalls

@@ -2,8 +2,12 @@
 #![tactic(auto)]
 
 mod proof;
+mod rule;
+mod step;
 
 pub use proof::{Proof, ProofNode};
+pub use rule::Rule;
+pub use step::{InductionCase, InductionCases, Step};
 
 #[cfg(test)]
 mod tests;

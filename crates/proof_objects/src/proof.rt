@@ -1,12 +1,14 @@
+//! Proofs, as steps with their subproofs.
+
 ghost use Rattle.std.specs.Prelude.{◌≡◌, IfOk};
-ghost use Rattle.proof_objects.specs.ProofTrees.{rule_of};
+ghost use Rattle.proof_objects.specs.ProofTrees.{By, trees};
 ghost use Rattle.proof_objects.specs.ProofView.{tree_of};
 
-use lisp_data::Memory;
+use crate::step::Step;
+use lisp_data::{Memory, Seq};
 use std::alloc::Global;
 use std::marker::Model;
 use std::rc::Rc;
-use terms::{Path, Term};
 
 /// A proof, shared. Contracts see it as plain data. What it concludes is said in docs/KERNEL.md.
 #[cycle(proof)]
@@ -14,16 +16,12 @@ pub struct Proof {
     node: Rc<ProofNode>,
 }
 
-/// The last step of a proof: its rule, with the subproofs and the terms that the rule is given.
+/// The last step of a proof, with the subproofs in order.
 #[cycle(proof)]
 #[derive(Drop)]
-pub enum ProofNode {
-    /// A term equals itself.
-    Refl(Term),
-    /// By the equation of the first proof, one side for the other at a path of the second proof's goal.
-    Replace(Proof, Proof, Path),
-    /// A call equals its function's body at the arguments.
-    Unfold(Term),
+pub struct ProofNode {
+    pub step: Step,
+    pub subproofs: Seq<Proof>,
 }
 
 impl Drop for Proof {
@@ -46,17 +44,17 @@ impl Model for Proof {
 
     ghost size = { depth };
 
-    ghost use Rattle.std.proofs.Common.{arith};
+    ghost use Rattle.proof_objects.specs.ProofFalls.{parts_below};
 
-    ghost size_decreases = { λ a h. Prim.grind arith };
+    ghost size_decreases = { λ a h. parts_below a.node.value };
 }
 
 impl Proof {
     /// The proof that ends with this step.
-    pub fn new(alloc: Global, node: ProofNode) -> Result<Proof, Memory>
-        ensures { IfOk result (λ p. p ≡ tree_of node) }
+    pub fn new(alloc: Global, step: Step, subproofs: Seq<Proof>) -> Result<Proof, Memory>
+        ensures { IfOk result (λ p. p ≡ By step (trees subproofs)) }
     {
-        let node = Rc::new(alloc, node)?;
+        let node = Rc::new(alloc, ProofNode { step, subproofs })?;
         Ok(Proof { node })
     }
 
@@ -72,18 +70,5 @@ impl Proof {
     {
         let node = self.node.clone()?;
         Ok(Proof { node })
-    }
-}
-
-impl ProofNode {
-    /// The number of its rule in docs/KERNEL.md.
-    pub fn rule(&self) -> u32
-        ensures { result ≡ rule_of (tree_of self.now) }
-    {
-        match self {
-            ProofNode::Refl(_) => 2,
-            ProofNode::Replace(_, _, _) => 3,
-            ProofNode::Unfold(_) => 4,
-        }
     }
 }

@@ -1,5 +1,5 @@
 use super::*;
-use lisp_data::{Symbol, Value};
+use lisp_data::{Seq, Symbol, Value};
 use std::test::Fail;
 use terms::{Path, Term};
 
@@ -7,13 +7,12 @@ use terms::{Path, Term};
 fn makes_and_shares(rt: HostRuntime) -> Result<(), Fail> {
     let alloc = rt.alloc();
     let call = Term::quote(alloc, Value::Sym(Symbol::new(alloc, "T")?))?;
-    let equation = Proof::new(alloc, ProofNode::Unfold(call.share()?))?;
-    let other = Proof::new(alloc, ProofNode::Refl(call))?;
-    let node = ProofNode::Replace(equation, other, Path::from_slice(alloc, &[2, 1])?);
-    let proof = Proof::new(alloc, node)?.share()?;
-    let ProofNode::Replace(_, _, path) = proof.node() else {
-        return Err("another node".into());
-    };
-    assert_eq!(rt; path.len(), 2);
+    let mut subproofs = Seq::new(alloc);
+    subproofs.push(Proof::new(alloc, Step::Unfold(call.share()?), Seq::new(alloc))?)?;
+    subproofs.push(Proof::new(alloc, Step::Refl(call), Seq::new(alloc))?)?;
+    let step = Step::Replace(Path::from_slice(alloc, &[2, 1])?);
+    let proof = Proof::new(alloc, step, subproofs)?.share()?;
+    assert_eq!(rt; proof.node().subproofs.len(), 2);
+    assert_eq!(rt; proof.node().step.rule().number(), 3);
     Ok(())
 }

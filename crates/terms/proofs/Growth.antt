@@ -9,15 +9,17 @@ use Rattle.terms.specs.Definitions.{find, Interp}
 use Rattle.terms.specs.Worlds.{names, Distinct, Functions, World, FitsSequent, arity, arity_by, Fits, IsIn, Each, IsTrueAt, Holds}
 use Rattle.terms.specs.declared.sequent.Sequent.{Sequent}
 use Rattle.terms.specs.Measures.{mentions, mentions_in, is_nested, is_nested_in, call1, RecursiveCall, Place, Plain, Test, Then, Else, tests_at, next, first_place, recursive_calls, recursive_calls_in, falls, owed_by, obligations}
-use Rattle.terms.specs.BuiltIn.{not_def, implies_def, natp_def, binary_append_def}
+use Rattle.terms.specs.BuiltIn.{not_def, natp_def}
 use Rattle.terms.specs.Formed.{with_def, FitsOver, IsFormed, AllFormed, HasBasics}
-use Rattle.terms.specs.Sound.{Sound, AllHold, iso_conditions, add_definition, add_theorem}
+use Rattle.terms.specs.Sound.{Sound, initial_world, AllHold, iso_conditions, add_definition, add_theorem}
 use Rattle.terms.specs.Laws.{StaysTotalFlat}
 use Rattle.terms.proofs.Names.{same_name, name_self}
 use Rattle.terms.proofs.Below.{Any}
-use Rattle.terms.proofs.Extend.{over_map, eval_with, find_later, arity_later}
+use Rattle.terms.proofs.Extend.{over_map, eval_with, arity_later}
 use Rattle.terms.proofs.Meaning.{arity_primitive, arity_defined}
 use Rattle.terms.proofs.Basics.{is_less}
+use Rattle.terms.proofs.Lists.{join_to}
+use Rattle.terms.proofs.LaterSteps.{later_definition, later_theorem}
 use Rattle.terms.proofs.Totality.{EachTm, by_terms, each_join, each_to, lacks_fits, lacks_all_fits, over_substitute, over_by_args, stays_total}
 
 -- the obligations of a definition that can be added fit the world
@@ -101,7 +103,7 @@ module _ (W : Functions) (formed : AllFormed W.vars W.defs) (basics : HasBasics 
   falls_fits : (m : Tm) → FitsOver W d.formals m → (c : RecursiveCall) → CallFits c → FitsSequent W (falls d.formals m c)
   falls_fits m o c f = record {
     universals = tt;
-    hyps = f.tests;
+    hyps = join_to (Fits W) [] c.tests tt f.tests;
     goal = (
       arity_primitive W (codes "<") _ is_less,
       (
@@ -162,16 +164,6 @@ module _ (W : Functions) (formed : AllFormed W.vars W.defs) (d : Definition) (fr
   all_later : (ss : List Sequent) → AllHold W ss → AllHold (with_def W d) ss
   all_later ss h = each_to (λ s. FitsSequent W s × Holds W s) _ (λ s k. (sequent_later s k.0, holds_later s k.0 k.1)) ss h
 
-  pub found_later : (f : Name) (e : Definition) → find W.defs f ≡ Some e → find (d ∷ W.defs) f ≡ Some e
-  found_later f e found = find_later W d fresh f (length e.formals) (arity_defined W formed f e found) ∙ found
-
-  pub basics_later : HasBasics W → HasBasics (with_def W d)
-  basics_later basics = record {
-    has_not = found_later (codes "NOT") not_def basics.has_not;
-    has_implies = found_later (codes "IMPLIES") implies_def basics.has_implies;
-    has_natp = found_later (codes "NATP") natp_def basics.has_natp;
-  }
-
 -- what a definition that isn't recursive owes: nothing
 owes_nothing : (P : Sequent → Type 0) (d : Definition) → mentions d.name d.body ≡ false → Each P (obligations d)
 owes_nothing P d e = subst (λ b. Each P (cond b (owed_by d d.measure) [])) (sym e) tt
@@ -194,13 +186,8 @@ with_definition W sound d ok new flat =
       distinct = (new, sound.distinct);
       unlike_primitives = λ f i. by_test f (bytes_eq d.name f) refl i;
       formed = (ok, sound.formed);
-      apart = λ x k e.
-          let h = sound.apart x k e in
-          let a : arity F x ≡ Some k = ap (λ p. arity_by p (find F.defs x) (lookup F.vars x)) h.0 ∙ ap (λ q. arity_by None q (lookup F.vars x)) h.1 ∙ e in
-          (h.0, find_later F d ok.fresh x k a ∙ h.1);
       total = flat_stays_total F sound.formed sound.total d ok flat;
-      basics = basics_later F sound.formed d ok.fresh sound.basics;
-      append = found_later F sound.formed d ok.fresh (codes "BINARY-APPEND") binary_append_def sound.append;
+      later = later_definition initial_world W sound.later d;
       obligations = (
         owes_nothing (λ s. FitsSequent (with_def F d) s × Holds (with_def F d) s) d flat,
         each_to (λ e. AllHold F (obligations e)) (λ e. AllHold (with_def F d) (obligations e)) (λ e h. all_later F sound.formed d ok.fresh (obligations e) h) F.defs sound.obligations,
@@ -262,10 +249,8 @@ with_theorem W sound n s free new none fit h =
         | inr j ↦ sound.unlike_primitives f j
       ];
       formed = sound.formed;
-      apart = sound.apart;
       total = sound.total;
-      basics = sound.basics;
-      append = sound.append;
+      later = later_theorem initial_world W sound.later n s;
       obligations = sound.obligations;
       theorems = ((none, fit, h), sound.theorems);
       specifications = sound.specifications;

@@ -9,7 +9,6 @@ use Rattle.terms.specs.declared.sequent.Sequent.{Sequent}
 use Rattle.terms.specs.Evaluation.{resolve, variable, below, apply}
 use Rattle.terms.specs.Worlds.{names, Distinct, arity_by, Each, Total, FitsSequent, Holds}
 use Rattle.terms.specs.Measures.{mentions, obligations, call1, call2, is_natural}
-use Rattle.terms.specs.Definitions.{find}
 use Rattle.terms.specs.BuiltIn.{x, len_def, true_listp_def, binary_append_def, truth_definitions, number_definitions, list_definitions, initial_definitions}
 use Rattle.terms.specs.InitialTheorems.{equal_same, count_car, count_cdr, natp_count, natp_nfix, natp_minus_1, nfix_minus_1, count_minus_1, initial_theorems}
 use Rattle.terms.specs.Formed.{functions, AllFormed, HasBasics}
@@ -17,6 +16,7 @@ use Rattle.terms.specs.Sound.{Sound, AllHold, initial_world}
 use Rattle.terms.specs.Laws.{WorldsGrow}
 use Rattle.terms.proofs.Basics.{t_not_nil}
 use Rattle.terms.proofs.Totality.{stays_total}
+use Rattle.terms.proofs.LaterSteps.{later_self}
 use Rattle.terms.proofs.Growth.{flat_stays_total, with_definition, with_theorem}
 use Rattle.terms.proofs.MoreEntries.{with_variable, with_specification, with_event}
 use Rattle.terms.proofs.BuiltInTests.{none_recursive, formed_all, distinct, each_in}
@@ -171,19 +171,13 @@ names_distinct : Distinct (names initial_world)
 unfolding initial_definitions list_definitions number_definitions truth_definitions initial_theorems
 names_distinct = distinct (names initial_world) refl
 
-has_append : find initial_definitions (codes "BINARY-APPEND") ≡ Some binary_append_def
-unfolding initial_definitions list_definitions
-has_append = refl
-
 pub initial_sound : Sound initial_world
 initial_sound = record {
   distinct = names_distinct;
   unlike_primitives = each_in (λ f. primitive f ≡ None) (names initial_world) unlike_primitives;
   formed = formed_initial;
-  apart = λ x k e. absurd (cc);
   total = total_initial;
-  basics = basics_initial;
-  append = has_append;
+  later = later_self initial_world;
   obligations = owed_initial;
   theorems = theorems_hold;
   specifications = tt;

@@ -9,14 +9,15 @@ use Rattle.terms.specs.declared.sequent.Sequent.{Sequent}
 use Rattle.terms.specs.declared.entries.Specification.{Specification}
 use Rattle.terms.specs.Definitions.{find, Interp}
 use Rattle.terms.specs.Evaluation.{resolve, variable, below, apply}
-use Rattle.terms.specs.Worlds.{names, Functions, World, FitsSequent, arity, arity_by, Fits, IsIn, Each, TotalFor, Total, Holds}
+use Rattle.terms.specs.Worlds.{names, Functions, World, FitsSequent, arity, arity_by, Fits, IsIn, TotalFor, Total, Holds}
 use Rattle.terms.specs.Measures.{obligations}
-use Rattle.terms.specs.Formed.{with_def, with_var, FitsOver, functions, AllFormed, VarsApart}
-use Rattle.terms.specs.Sound.{Sound, AllHold, iso_conditions, add_variable, add_specification, add_event}
+use Rattle.terms.specs.Formed.{with_var, FitsOver, functions, AllFormed}
+use Rattle.terms.specs.Sound.{Sound, initial_world, AllHold, iso_conditions, add_variable, add_specification, add_event}
 use Rattle.terms.proofs.Names.{same_name, name_self, name_apart}
 use Rattle.terms.proofs.Below.{Any}
 use Rattle.terms.proofs.Extend.{over_map}
 use Rattle.terms.proofs.Totality.{each_to}
+use Rattle.terms.proofs.LaterSteps.{later_variable, later_specification, later_event}
 use Rattle.terms.proofs.Growth.{Inserted, inserted_here, inserted_after, free_primitive}
 
 no_function : (p : Option Operation) (q : Option Definition) (r : Option ℕ) → arity_by p q r ≡ None → (p ≡ None) × (q ≡ None) × (r ≡ None)
@@ -112,13 +113,6 @@ module _ (F : Functions) (x : Name) (k : ℕ) (fresh : arity F x ≡ None) where
       by_test false t =
           total I (total_before I tot) f j (ap (λ b. arity_by (primitive f) (find F.defs f) (cond b (Some k) (lookup F.vars f))) (sym t) ∙ a) vs len
 
-  vars_apart_later : VarsApart F → VarsApart (with_var F x k)
-  vars_apart_later h y j e = by_test (bytes_eq x y) refl e
-    where
-      by_test : (b : Bool) → bytes_eq x y ≡ b → cond b (Some k) (lookup F.vars y) ≡ Some j → (primitive y ≡ None) × (find F.defs y ≡ None)
-      by_test true t e' = subst (λ z. (primitive z ≡ None) × (find F.defs z ≡ None)) (same_name x y t) (apart.0, apart.1)
-      by_test false t e' = h y j e'
-
 -- a name more is no primitive's where the others are none
 unlike_later : (n : Name) (zs ws : List Name) → Inserted n zs ws → primitive n ≡ None → ((f : Name) → IsIn zs f → primitive f ≡ None) → (f : Name) → IsIn ws f → primitive f ≡ None
 unlike_later n zs ws more free unlike f i = elim (more.among f i) [
@@ -136,10 +130,8 @@ with_variable W sound x k fresh new =
       distinct = more.distinct sound.distinct new;
       unlike_primitives = unlike_later x (names W) (names (add_variable x k W)) more free sound.unlike_primitives;
       formed = formed_with_var F.vars x k a.0 a.2 F.defs a.1 sound.formed;
-      apart = vars_apart_later F x k fresh sound.apart;
       total = total_later F x k fresh sound.total;
-      basics = record { has_not = sound.basics.has_not; has_implies = sound.basics.has_implies; has_natp = sound.basics.has_natp };
-      append = sound.append;
+      later = later_variable initial_world W sound.later x k;
       obligations = each_to (λ d. AllHold F (obligations d)) (λ d. AllHold (with_var F x k) (obligations d)) (λ d h. all_later F x k fresh (obligations d) h) F.defs sound.obligations;
       theorems = each_to _ (λ e. (e.1.hyps ≡ []) × FitsSequent (with_var F x k) e.1 × Holds (with_var F x k) e.1) (λ e h. (h.0, sequent_later F x k fresh e.1 h.1, holds_later F x k fresh e.1 h.2)) W.theorems sound.theorems;
       specifications = each_to (λ s. FitsOver F s.variables s.matrix) (λ s. FitsOver (with_var F x k) s.variables s.matrix) (λ s h. over_map (IsIn s.variables) (IsIn s.variables) _ _ (λ y p. p) (arity_later F x k fresh) s.matrix h) W.specifications sound.specifications;
@@ -155,10 +147,8 @@ with_specification W sound s free new fits =
       distinct = more.distinct sound.distinct new;
       unlike_primitives = unlike_later s.name (names W) (names (add_specification s W)) more free sound.unlike_primitives;
       formed = sound.formed;
-      apart = sound.apart;
       total = sound.total;
-      basics = sound.basics;
-      append = sound.append;
+      later = later_specification initial_world W sound.later s;
       obligations = sound.obligations;
       theorems = sound.theorems;
       specifications = (fits, sound.specifications);
@@ -170,10 +160,8 @@ with_event W sound e = record {
   distinct = sound.distinct;
   unlike_primitives = sound.unlike_primitives;
   formed = sound.formed;
-  apart = sound.apart;
   total = sound.total;
-  basics = sound.basics;
-  append = sound.append;
+  later = later_event initial_world W sound.later e;
   obligations = sound.obligations;
   theorems = sound.theorems;
   specifications = sound.specifications;

@@ -1,5 +1,5 @@
 -- A definition whose obligations hold leaves the world total.
-use Rattle.std.proofs.Common.{◌≡◌, ◌≢◌, ℕ, zero, suc, ◌<◌, ◌≤◌, max, Bool, true, false, cond, not, ◌&&◌, List, [], ◌∷◌, ◌++◌, length, map, pos, is_some, bytes_eq, codes, Option, Some, None, IfSome, refl, sym, ap, ◌∙◌, subst, arith}
+use Rattle.std.proofs.Common.{◌≡◌, ◌≢◌, ℕ, zero, suc, ◌<◌, ◌≤◌, max, Bool, true, false, cond, not, ◌&&◌, List, [], ◌∷◌, ◌++◌, length, pos, is_some, bytes_eq, codes, Option, Some, None, IfSome, refl, sym, ap, ◌∙◌, subst, arith}
 use Rattle.std.proofs.lemmas.Bool.{or_parts, and_parts, not-true, eq-eqb}
 use Rattle.lisp_data.specs.Values.{Name, Val, Int, nil}
 use Rattle.terms.specs.Primitives.{Operation, Three, choose, primitive, lookup, is_nil}
@@ -13,6 +13,8 @@ use Rattle.terms.specs.Laws.{StaysTotal}
 use Rattle.terms.specs.BuiltIn.{not_def, natp_def}
 use Rattle.terms.specs.Formed.{with_def, FitsOver, IsFormed, AllFormed, HasBasics, ObligationsHold}
 use Rattle.terms.proofs.Names.{same_name, name_self}
+pub use Rattle.terms.proofs.Lists.{each_parts, each_join, each_of_map, each_to}
+use Rattle.terms.proofs.Lists.{join_to}
 use Rattle.terms.proofs.Below.{Any}
 use Rattle.terms.proofs.Models.{Reaches, Model, model, val, vals, vals-length, somes, call_of-somes, reaches_val, is_if}
 use Rattle.terms.proofs.Extend.{over_map, apply_with, eval_with}
@@ -34,22 +36,6 @@ module _ (P : Tm → Type 0) (var : (x : Name) → P (Var x)) (quote : (v : Val)
     pub by_all_terms : (ts : Tms) → EachTm P ts
     by_all_terms Done = tt
     by_all_terms (More t ts) = (by_terms t, by_all_terms ts)
-
-pub each_parts : {A : Type 0} (P : A → Type 0) (xs ys : List A) → Each P (xs ++ ys) → Each P xs × Each P ys
-each_parts P [] ys h = (tt, h)
-each_parts P (x ∷ xs) ys h = let r = each_parts P xs ys h.1 in ((h.0, r.0), r.1)
-
-pub each_join : {A : Type 0} (P : A → Type 0) (xs ys : List A) → Each P xs → Each P ys → Each P (xs ++ ys)
-each_join P [] ys h g = g
-each_join P (x ∷ xs) ys h g = (h.0, each_join P xs ys h.1 g)
-
-pub each_of_map : {A B : Type 0} (P : B → Type 0) (f : A → B) (xs : List A) → Each P (map f xs) → Each (λ x. P (f x)) xs
-each_of_map P f [] h = tt
-each_of_map P f (x ∷ xs) h = (h.0, each_of_map P f xs h.1)
-
-pub each_to : {A : Type 0} (P Q : A → Type 0) → ((x : A) → P x → Q x) → (xs : List A) → Each P xs → Each Q xs
-each_to P Q f [] h = tt
-each_to P Q f (x ∷ xs) h = (f x h.0, each_to P Q f xs h.1)
 
 pub substitute-count : (s : Name → Tm) (ts : Tms) → count (substitute_all s ts) ≡ count ts
 substitute-count s Done = refl
@@ -314,7 +300,7 @@ module _ (W : Functions) (formed : AllFormed W.vars W.defs) (d : Definition) (ok
         let ws = vals M.of c.args here' in
         let m' = substitute (by_args d.formals c.args) m in
         let fit' : Fits W m' = over_map (IsIn d.formals) Any _ _ (λ x p. tt) (λ f k q. q) m' (over_substitute (IsIn d.formals) (IsIn d.formals) _ (by_args d.formals c.args) (λ x i. over_by_args (IsIn d.formals) _ d.formals c.args x n o i) m fit) in
-        let all = each_to (TrueHere vs len) (IsTrueAt W I here') (λ t p. true_from W I M t p.0 here' p.1) c.tests tests in
+        let all = join_to (IsTrueAt W I here') [] c.tests tt (each_to (TrueHere vs len) (IsTrueAt W I here') (λ t p. true_from W I M t p.0 here' p.1) c.tests tests) in
         let less = true_to W I M (call2 (codes "<") m' m) (arity_primitive W (codes "<") _ is_less, (fit', (fit_any, tt))) here' (h I tot tt here' all) in
         let e' : val M.of m' here' ≡ val M.of m (bound d.formals ws) =
         val_substitute M.of (by_args d.formals c.args) here' m

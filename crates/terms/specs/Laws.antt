@@ -2,13 +2,17 @@
 use Rattle.std.specs.Prelude.{◌≡◌, true, false, ℕ, ◌≤◌, List, [], ◌∷◌, Some, None}
 use Rattle.lisp_data.specs.Values.{Name, Val}
 use Rattle.lisp_data.specs.Datum.{Datum}
-use Rattle.terms.specs.Primitives.{primitive}
+use Rattle.terms.specs.Primitives.{primitive, lookup}
 use Rattle.terms.specs.Terms.{Tm, substitute}
-use Rattle.terms.specs.Definitions.{Interp}
+use Rattle.terms.specs.Definitions.{find, Interp}
 use Rattle.terms.specs.Evaluation.{Env, eval}
 use Rattle.terms.specs.Worlds.{Functions, World, FitsSequent, IsIn, names, arity, Total, Fits, Holds}
 use Rattle.terms.specs.Measures.{mentions}
 use Rattle.terms.specs.Formed.{with_def, IsFormed, AllFormed, FitsOver, HasBasics, ObligationsHold}
+use Rattle.terms.specs.Later.{IsLater, Stays}
+use Rattle.terms.specs.Dependence.{dependence}
+use Rattle.terms.specs.BuiltIn.{initial_definitions}
+use Rattle.terms.specs.InitialTheorems.{initial_theorems}
 use Rattle.terms.specs.Sound.{Sound, initial_world, add_definition, add_variable, add_theorem, add_specification, add_event}
 use Rattle.terms.specs.declared.definition.Definition.{Definition}
 use Rattle.terms.specs.declared.entries.Specification.{Specification}
@@ -46,3 +50,16 @@ pub record WorldsGrow : Type 0 where
   pub theorem : (W : World) → Sound W → (n : Name) (s : Sequent) → primitive n ≡ None → (IsIn (names W) n → ⊥) → s.hyps ≡ [] → FitsSequent W.functions s → Holds W.functions s → Sound (add_theorem n s W)
   pub specification : (W : World) → Sound W → (s : Specification) → primitive s.name ≡ None → (IsIn (names W) s.name → ⊥) → FitsOver W.functions s.variables s.matrix → Sound (add_specification s W)
   pub event : (W : World) → Sound W → (e : Datum) → Sound (add_event e W)
+
+-- what a sound world's names are stays in each later sound world
+abbrev pub LaterWorldsKeep : Type 0
+LaterWorldsKeep = (W V : World) → Sound W → Sound V → IsLater W V → Stays W V
+
+-- each initial definition and theorem is found under its name, and no initial function depends on a function variable
+pub record KeepsInitial (W : World) : Type 0 where
+  pub definitions : (f : Name) (d : Definition) → find initial_definitions f ≡ Some d → find W.functions.defs f ≡ Some d
+  pub independent : (f : Name) (d : Definition) → find initial_definitions f ≡ Some d → dependence W.functions.vars W.functions.defs f ≡ []
+  pub theorems : (n : Name) (s : Sequent) → lookup initial_theorems n ≡ Some s → lookup W.theorems n ≡ Some s
+
+abbrev pub SoundWorldsKeepInitial : Type 0
+SoundWorldsKeepInitial = (W : World) → Sound W → KeepsInitial W

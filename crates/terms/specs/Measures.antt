@@ -5,6 +5,7 @@
 use Rattle.std.specs.Prelude.{Bool, false, cond, not, ◌&&◌, ◌||◌, List, [], ◌∷◌, ◌++◌, map, bytes_eq, codes, Option, Some, None}
 use Rattle.lisp_data.specs.Values.{Name}
 use Rattle.terms.specs.Terms.{Tm, Var, Quote, Call, Tms, Done, More, substitute, by_args}
+use Rattle.terms.specs.Joins.{without_repeats}
 use Rattle.terms.specs.declared.definition.Definition.{Definition}
 use Rattle.terms.specs.declared.sequent.Sequent.{Sequent}
 
@@ -39,6 +40,7 @@ call2 f a b = Call f (More a (More b Done))
 abbrev pub call3 : Name → Tm → Tm → Tm → Tm
 call3 f a b c = Call f (More a (More b (More c Done)))
 
+-- a call, and the tests on the way to it, also those that are met twice
 pub record RecursiveCall : Type 0 where
   pub tests : List Tm
   pub args : Tms
@@ -82,11 +84,12 @@ abbrev mutual
 abbrev pub is_natural : Tm → Sequent
 is_natural m = record { universals = []; hyps = []; goal = call1 (codes "NATP") m }
 
--- m is less where the formals are the call's arguments
+-- m is less where the formals are the call's arguments and the tests are true; a test that is met twice is one hypothesis
 abbrev pub falls : List Name → Tm → RecursiveCall → Sequent
 falls formals m c =
-    record { universals = []; hyps = c.tests; goal = call2 (codes "<") (substitute (by_args formals c.args) m) m }
+    record { universals = []; hyps = without_repeats c.tests; goal = call2 (codes "<") (substitute (by_args formals c.args) m) m }
 
+-- (a recursive definition has a measure where it is well formed; the case without one never comes)
 abbrev pub owed_by : Definition → Option Tm → List Sequent
 owed_by d None = []
 owed_by d (Some m) = is_natural m ∷ map (falls d.formals m) (recursive_calls d.name [] d.body)

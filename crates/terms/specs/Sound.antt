@@ -1,15 +1,15 @@
 -- Sound worlds, and how they grow.
-use Rattle.std.specs.Prelude.{◌≡◌, ℕ, Some, None, List, [], ◌∷◌, codes}
+use Rattle.std.specs.Prelude.{◌≡◌, ℕ, None, List, [], ◌∷◌, codes}
 use Rattle.lisp_data.specs.Values.{Name}
 use Rattle.lisp_data.specs.Datum.{Datum}
 use Rattle.terms.specs.Primitives.{primitive}
 use Rattle.terms.specs.Terms.{Tm, Var}
 use Rattle.terms.specs.Measures.{call1, call2, obligations}
 use Rattle.terms.specs.Worlds.{World, Functions, Each, IsIn, Distinct, FitsSequent, Holds, Total, names}
-use Rattle.terms.specs.BuiltIn.{binary_append_def, initial_definitions}
-use Rattle.terms.specs.Definitions.{find}
+use Rattle.terms.specs.BuiltIn.{initial_definitions}
 use Rattle.terms.specs.InitialTheorems.{initial_theorems}
-use Rattle.terms.specs.Formed.{with_def, with_var, AllFormed, FitsOver, HasBasics, VarsApart}
+use Rattle.terms.specs.Formed.{with_def, with_var, AllFormed, FitsOver}
+use Rattle.terms.specs.Later.{IsLater}
 use Rattle.terms.specs.declared.definition.Definition.{Definition}
 use Rattle.terms.specs.declared.sequent.Sequent.{Sequent}
 use Rattle.terms.specs.declared.entries.Specification.{Specification}
@@ -33,25 +33,6 @@ iso_conditions i =
     ∷ over_x i.newp (call2 (codes "EQUAL") (call1 i.forth (call1 i.back x)) x)
     ∷ []
 
--- what is kept of each world
-pub record Sound (W : World) : Type 0 where
-  -- no name is given twice, nor is a primitive's
-  pub distinct : Distinct (names W)
-  pub unlike_primitives : (f : Name) → IsIn (names W) f → primitive f ≡ None
-  -- each definition is well formed over those before it, and each function has a value everywhere
-  pub formed : AllFormed W.functions.vars W.functions.defs
-  pub apart : VarsApart W.functions
-  pub total : Total W.functions
-  -- NOT, IMPLIES and NATP are the functions that rules and obligations speak with
-  pub basics : HasBasics W.functions
-  -- BINARY-APPEND is the function that the word APPEND stands for
-  pub append : find W.functions.defs (codes "BINARY-APPEND") ≡ Some binary_append_def
-  -- what measures owe, theorems and the conditions of isomorphisms hold
-  pub obligations : Each (λ d. AllHold W.functions (obligations d)) W.functions.defs
-  pub theorems : Each (λ t. (t.1.hyps ≡ []) × FitsSequent W.functions t.1 × Holds W.functions t.1) W.theorems
-  pub specifications : Each (λ s. FitsOver W.functions s.variables s.matrix) W.specifications
-  pub isos : Each (λ i. AllHold W.functions (iso_conditions i)) W.isos
-
 -- the world that each book begins with
 abbrev pub initial_world : World
 initial_world = record {
@@ -63,6 +44,22 @@ initial_world = record {
   links = [];
   events = [];
 }
+
+-- what is kept of each world
+pub record Sound (W : World) : Type 0 where
+  -- no name is given twice, nor is a primitive's
+  pub distinct : Distinct (names W)
+  pub unlike_primitives : (f : Name) → IsIn (names W) f → primitive f ≡ None
+  -- each definition is well formed over those before it, and each function has a value everywhere
+  pub formed : AllFormed W.functions.vars W.functions.defs
+  pub total : Total W.functions
+  -- what each book begins with is there: rules, obligations and the words of the syntax speak with its functions
+  pub later : IsLater initial_world W
+  -- what measures owe, theorems and the conditions of isomorphisms hold
+  pub obligations : Each (λ d. AllHold W.functions (obligations d)) W.functions.defs
+  pub theorems : Each (λ t. (t.1.hyps ≡ []) × FitsSequent W.functions t.1 × Holds W.functions t.1) W.theorems
+  pub specifications : Each (λ s. FitsOver W.functions s.variables s.matrix) W.specifications
+  pub isos : Each (λ i. AllHold W.functions (iso_conditions i)) W.isos
 
 abbrev pub add_definition : Definition → World → World
 add_definition d W = record W { functions = with_def W.functions d }

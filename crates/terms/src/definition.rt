@@ -1,3 +1,5 @@
+//! Definitions of functions (docs/MODEL.md, "Definitions and worlds").
+
 ghost use Rattle.std.specs.Prelude.{◌≡◌, IfOk};
 
 use crate::term::Term;

@@ -1,3 +1,5 @@
+//! Sequents (docs/MODEL.md, "Sequents, and what holds").
+
 ghost use Rattle.std.specs.Prelude.{◌≡◌, IfOk};
 
 use crate::term::{Term, Terms};

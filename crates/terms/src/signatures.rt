@@ -1,6 +1,8 @@
+//! What functions there are.
+
 ghost use Rattle.std.specs.Prelude.{◌≡◌, ℕ, List, Option};
 
-use lisp_data::{Symbol, Symbols};
+use lisp_data::Symbol;
 
 /// What functions there are.
 pub trait Signatures {
@@ -10,11 +12,4 @@ pub trait Signatures {
     /// How many arguments the function of this name takes, if there is one.
     fn arity(&self, name: &Symbol) -> Option<usize>
         ensures { result ≡ arity_of self.now name.now };
-}
-
-/// Which variables a term may have.
-#[derive(Drop)]
-pub enum Scope<'a> {
-    Any,
-    Only(&'a Symbols),
 }

@@ -69,6 +69,18 @@ impl Subst {
         self.pairs.len()
     }
 
+    /// An equal substitution, with its terms shared.
+    #[tactic(auto, using(crate::proofs::Args::args))]
+    pub fn copy(&self, alloc: Global) -> Result<Subst, Memory>
+        ensures { IfOk result (λ s. s ≡ self.now) }
+    {
+        let mut pairs = Seq::new(alloc);
+        for pair in self.pairs.as_slice() {
+            pairs.push((pair.0.share()?, pair.1.share()?))?;
+        }
+        Ok(Subst { pairs })
+    }
+
     /// The pair at a place, counted from 0.
     pub fn get(&self, place: usize) -> Option<&(Symbol, Term)>
         ensures { option_copied result ≡ slice_get self.now place }

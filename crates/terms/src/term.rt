@@ -1,3 +1,5 @@
+//! Terms as shared trees (docs/MODEL.md, "Terms").
+
 ghost use Rattle.std.specs.Prelude.{◌≡◌, ◌↔◌, IsTrue, IfOk};
 ghost use Rattle.lisp_data.specs.ValueView.{val_of};
 ghost use Rattle.terms.specs.Terms.{Var, Quote, Call, tms, same_tm, same_tms};

@@ -13,7 +13,8 @@ use lisp_data::{Form, Symbol, Symbols};
 use lists::{Memory, Text};
 use plans::{Condition, Entry, Plan};
 use std::alloc::Global;
-use terms::{Scope, Sequent, Term, Terms, translate};
+use term_forms::{Scope, translate};
+use terms::{Sequent, Term, Terms};
 use worlds::World;
 
 /// `(defthm n formula .. :proof proof)`.
@@ -50,7 +51,7 @@ impl Kind for Defthm<'_> {
     ghost proper = { λ e. IsProper e.formula.now × IfSome e.proof (λ p. IsProper p.now) };
 
     fn is_lawful(&self) {
-        terms::translated_terms_fit();
+        term_forms::translated_terms_fit();
     }
 
     fn write_title(&self, out: &mut Text) -> Result<(), Memory> {

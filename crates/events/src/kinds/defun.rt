@@ -29,7 +29,7 @@ impl Kind for Defun<'_> {
     ghost proper = { λ e. AllProper e.formals.now × IsProper e.body.now };
 
     fn is_lawful(&self) {
-        terms::translated_terms_fit();
+        term_forms::translated_terms_fit();
     }
 
     fn write_title(&self, out: &mut Text) -> Result<(), Memory> {

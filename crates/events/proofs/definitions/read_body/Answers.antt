@@ -2,8 +2,8 @@ use Rattle.std.proofs.Common.{ℕ, length, Err, subst}
 use Rattle.lisp_data.specs.FormView.{form_of}
 use Rattle.terms.specs.Terms.{Tm}
 use Rattle.terms.specs.Worlds.{arity, is_in}
-use Rattle.terms.specs.Translation.{Outcome, translate}
-use Rattle.terms.specs.TranslationView.{SaysOutcome}
+use Rattle.term_forms.specs.Translation.{Outcome, translate}
+use Rattle.term_forms.specs.TranslationView.{SaysOutcome}
 use Rattle.events.specs.Definitions.{with_own, body_of, unless_recursive}
 use Rattle.events.specs.Halts.{IsFromTerm}
 use Rattle.events.proofs.StepLemmas.{by_error, term_refusal, recursive_body, flat_body}

@@ -1,0 +1,6 @@
+pub mod Answers
+pub mod Callees
+pub mod Counted
+pub mod Laws
+pub mod Machines
+pub mod Table

@@ -1,0 +1,17 @@
+//! Evaluation of ground terms, with limits and a count of calls, on a stack of its own.
+#![tactic(auto)]
+
+mod callees;
+mod errors;
+mod evaluation;
+mod finds;
+mod laws;
+mod machine;
+mod primitives;
+
+pub use errors::EvalError;
+pub use evaluation::evaluate;
+pub use laws::{counted_values_are_values, never_stuck};
+
+#[cfg(test)]
+mod tests;

@@ -1,0 +1,62 @@
+//! Steps one after the other, each from earlier ones by their numbers, from 1.
+
+ghost use Rattle.std.specs.Prelude.{◌≡◌, IfOk, IfSome, IsErrOf, None, Some};
+ghost use Rattle.std.specs.Option.{option_copied, option_map};
+ghost use Rattle.kernel.specs.Conclude.{code_of};
+ghost use Rattle.kernel.specs.Conclusion.{sequents_of, AllIn};
+ghost use Rattle.kernel.specs.StepLists.{item, items, line_concludes};
+ghost use Rattle.kernel.specs.Answers.{IfLimit};
+
+use crate::errors::RuleError;
+use crate::proved::{Proved, Ruled, all_conclude};
+use lisp_data::{Memory, Seq};
+use proof_objects::Step;
+use std::alloc::Global;
+use worlds::World;
+
+/// What a step concludes from the earlier steps of these numbers. Refused too where no earlier step has a number.
+pub fn next_step(alloc: Global, world: &World, done: &[Proved], step: Step, from: &[u32]) -> Ruled
+    requires { AllIn world.now done.now }
+    ensures world { IfOk result (λ it. it.world ≡ world.now) }
+    ensures ok { IfOk result (λ it. line_concludes world.now (sequents_of done.now) step from.now ≡ Some it.sequent) }
+    ensures refused { IsErrOf result RuleError.Refused → line_concludes world.now (sequents_of done.now) step from.now ≡ None }
+    ensures limits { IfLimit result (λ code. (line_concludes world.now (sequents_of done.now) step from.now ≡ None) × (code_of world.now step ≡ code)) }
+{
+    let Some(premises) = picked(alloc, world, done, from)? else {
+        return Err(RuleError::Refused);
+    };
+    all_conclude(world, premises.as_slice());
+    Proved::by(alloc, world, step, premises.as_slice())
+}
+
+/// The earlier steps of these numbers.
+#[tactic(auto, using(crate::proofs::Picked::picked))]
+fn picked(
+    alloc: Global,
+    world: &World,
+    done: &[Proved],
+    from: &[u32],
+) -> Result<Option<Seq<Proved>>, Memory>
+    requires { AllIn world.now done.now }
+    ensures items { IfOk result (λ o. option_map sequents_of o ≡ items (sequents_of done.now) from.now) }
+    ensures world { IfOk result (λ o. IfSome o (AllIn world.now)) }
+{
+    let mut premises = Seq::new(alloc);
+    for number in from {
+        match earlier(done, *number) {
+            Some(premise) => premises.push(premise.share()?)?,
+            None => return Ok(None),
+        }
+    }
+    Ok(Some(premises))
+}
+
+fn earlier<'a>(done: &'a [Proved], number: u32) -> Option<&'a Proved>
+    ensures { option_copied result ≡ item done.now number }
+{
+    if number == 0 {
+        None
+    } else {
+        done.get(number as usize - 1)
+    }
+}

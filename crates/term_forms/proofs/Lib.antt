@@ -1,0 +1,22 @@
+mod NameLemmas
+pub mod TranslatedTerms
+pub mod Prints
+pub mod TermForms
+pub mod Limits
+pub mod Each
+pub mod Growing
+pub mod Replaced
+pub mod Words
+pub mod Folds
+pub mod Literals
+pub mod WordTexts
+pub mod Scopes
+pub mod Quoted
+pub mod Heads
+pub mod ShapeLemmas
+pub mod ClauseLemmas
+pub mod Chosen
+pub mod Bound
+pub mod InTurn
+pub mod Lets
+pub mod Translated

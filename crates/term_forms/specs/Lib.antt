@@ -1,0 +1,15 @@
+pub mod Names
+pub mod Macros
+pub mod Translation
+pub mod CountedView
+pub mod Outcomes
+pub mod Words
+pub mod Bindings
+pub mod Heads
+pub mod Shapes
+pub mod Clauses
+pub mod ClauseCode
+pub mod Lets
+pub mod TranslationView
+pub mod TranslationLaws
+pub mod Printing

@@ -1,8 +1,0 @@
--- Terms in which variables are replaced.
-use Rattle.terms.specs.TermFalls.{most_le-depths}
-use Rattle.terms.proofs.Args.{depth-get_or}
-use Rattle.terms.proofs.Limits.{limited-within}
-use Rattle.terms.proofs.Each.{each-more, each-refused, each-end}
-use Rattle.terms.proofs.Growing.{parts-replaced, part-refused, parts-replaced}
-
-pub ruleset replaced = (depth-get_or, most_le-depths, limited-within, each-more, each-refused, each-end, part-refused, parts-replaced)

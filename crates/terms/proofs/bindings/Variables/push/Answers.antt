@@ -1,6 +1,0 @@
-use Rattle.terms.specs.TranslationView.{allowed}
-use Rattle.terms.proofs.Scopes.{with_more}
-use Rattle.terms.proofs.bindings.Variables.push.Goals as goal
-
-pub returns : goal.returns
-returns c = with_more c.args.self.now.bound _ _ (allowed c.args.self.now.outer.now) c.in_ok-push.ensures.ok

@@ -1,7 +1,0 @@
-use Rattle.std.proofs.Common.{◌≡◌, drop}
-use Rattle.terms.specs.Worlds.{is_in}
-use Rattle.terms.specs.Bindings.{names_of}
-use Rattle.terms.proofs.bindings.binds.Given as goal
-
-abbrev pub invariant-loop-binding : goal.invariant-loop-binding
-invariant-loop-binding l = is_in (names_of (drop l.binding-index l.bindings)) l.name ≡ is_in (names_of l.bindings) l.name

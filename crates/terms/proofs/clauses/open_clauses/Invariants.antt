@@ -1,6 +1,0 @@
-use Rattle.std.proofs.Common.{◌≡◌, ◌+◌, drop}
-use Rattle.terms.specs.Clauses.{open_clauses}
-use Rattle.terms.proofs.clauses.open_clauses.Given as goal
-
-abbrev pub invariant-loop-i : goal.invariant-loop-i
-invariant-loop-i l = l.i + open_clauses (drop l.i l.clauses) ≡ open_clauses l.clauses

@@ -1,5 +1,0 @@
-use Rattle.terms.proofs.Words.{named}
-use Rattle.terms.proofs.macros.Known.symbol.Goals as goal
-
-pub named-requires : goal.named-requires
-named-requires c = named c.args.self _ c.text.ensures
