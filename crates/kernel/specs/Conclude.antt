@@ -6,12 +6,20 @@ use Rattle.terms.specs.Worlds.{World}
 use Rattle.terms.specs.declared.sequent.Sequent.{Sequent}
 use Rattle.proof_objects.specs.declared.step.Step.{Step}
 use Rattle.proof_objects.specs.declared.step.Step.TheVariants.{Hyp, Refl, Replace, Unfold, Eval, Substitute, IfTrue, IfFalse, Cases, Cut, Weaken, Contradict, Axiom, Ring, ImpliesIn, ImpliesOut, Universal, Discharge, Theorem, Instance, Induct}
-use Rattle.kernel.specs.Rules.{reflexive, replaced, unfolded}
+use Rattle.kernel.specs.Equations.{reflexive, replaced, unfolded, if_true, if_false}
+use Rattle.kernel.specs.Logic.{hypothesis, substituted, by_cases, cut, weakened, contradicted, implied, detached, instantiated, discharged}
+use Rattle.kernel.specs.Axioms.{axiom_instance}
+use Rattle.kernel.specs.Facts.{fact_of}
 
 -- how many subproofs a rule takes
 abbrev pub from_none : Option Sequent → List Sequent → Option Sequent
 from_none o [] = o
 from_none o (p ∷ ps) = None
+
+abbrev pub from_one : (Sequent → Option Sequent) → List Sequent → Option Sequent
+from_one k [] = None
+from_one k (p ∷ []) = k p
+from_one k (p ∷ q ∷ ps) = None
 
 abbrev pub from_two : (Sequent → Sequent → Option Sequent) → List Sequent → Option Sequent
 from_two k [] = None
@@ -25,25 +33,25 @@ not_built ps = None
 
 -- the sequent that a step concludes from what its subproofs do, or nothing
 abbrev pub conclude : World → Step → List Sequent → Option Sequent
-conclude W (Hyp p) = not_built
+conclude W (Hyp p) = from_none (hypothesis W.functions p)
 conclude W (Refl a) = from_none (reflexive W.functions a)
 conclude W (Replace path) = from_two (replaced path)
 conclude W (Unfold t) = from_none (unfolded W.functions t)
 conclude W (Eval a) = not_built
-conclude W (Substitute s) = not_built
-conclude W (IfTrue b c) = not_built
-conclude W (IfFalse b c) = not_built
-conclude W (Cases c) = not_built
-conclude W Cut = not_built
-conclude W (Weaken hs us) = not_built
-conclude W (Contradict g) = not_built
-conclude W (Axiom k s) = not_built
+conclude W (Substitute s) = from_one (substituted W.functions s)
+conclude W (IfTrue b c) = from_one (if_true W.functions b c)
+conclude W (IfFalse b c) = from_one (if_false W.functions b c)
+conclude W (Cases c) = from_two (by_cases W.functions c)
+conclude W Cut = from_two cut
+conclude W (Weaken hs us) = from_one (weakened W.functions hs us)
+conclude W (Contradict g) = from_two (contradicted W.functions g)
+conclude W (Axiom k s) = from_none (axiom_instance W.functions k s)
 conclude W (Ring a b) = not_built
-conclude W (ImpliesIn p) = not_built
-conclude W ImpliesOut = not_built
-conclude W (Universal u s) = not_built
-conclude W Discharge = not_built
-conclude W (Theorem fact) = not_built
+conclude W (ImpliesIn p) = from_one (implied W.functions p)
+conclude W ImpliesOut = from_two detached
+conclude W (Universal u s) = from_none (instantiated W.functions u s)
+conclude W Discharge = from_two discharged
+conclude W (Theorem fact) = from_none (fact_of W fact)
 conclude W (Instance fact pairs) = not_built
 conclude W (Induct m cases) = not_built
 

@@ -9,9 +9,9 @@ ghost use Rattle.proof_objects.specs.ProofTrees.{step_of};
 ghost use Rattle.lisp_data.specs.declared.code.Code.TheVariants.{ProofWrong as WrongProof};
 ghost use Rattle.kernel.specs.Answers.{IfProofWrong, IfLimitAt, OnRefusal, IsBadAt, IsLimitAt, IfLimit};
 
+use crate::conclude::conclude;
 use crate::errors::{CheckError, RuleError, RuleName};
 use crate::proved::{Proved, Ruled};
-use crate::rules::conclude;
 use lisp_data::Seq;
 use proof_objects::{Proof, Rule};
 use std::alloc::Global;

@@ -2,21 +2,28 @@
 
 ghost use Rattle.std.specs.Prelude.{◌≡◌, ◌↔◌, [], ◌∷◌, IfOk, IsErrOf, None, Some};
 ghost use Rattle.terms.specs.Worlds.{FitsSequent, Holds};
-ghost use Rattle.proof_objects.specs.ProofTrees.{By, NoMore, trees};
+ghost use Rattle.proof_objects.specs.ProofTrees.{By, trees};
 ghost use Rattle.kernel.specs.Concludes.{concludes, all_concluded};
 ghost use Rattle.kernel.specs.Conclude.{code_of};
-ghost use Rattle.kernel.specs.Conclusion.{IsProvedBy, proofs_of, sequents_of, AllIn};
+ghost use Rattle.kernel.specs.Conclusion.{IsProvedBy, alone, after, after_both, proofs_of, sequents_of, AllIn};
 ghost use Rattle.kernel.specs.Answers.{IfLimit, IsWithinLimits};
 
+use crate::axioms::axiom_instance;
+use crate::conclude::conclude;
+use crate::equations::{if_false, if_true, reflexive, replaced, unfolded};
 use crate::errors::RuleError;
+use crate::facts::{fact_of, shared};
 use crate::laws::rules_are_sound;
-use crate::rules::{conclude, reflexive, replaced, unfolded};
+use crate::logic::{
+    by_cases, contradicted, cut, detached, discharged, hypothesis, implied, instantiated,
+    substituted, weakened,
+};
 use lisp_data::{Memory, Seq, Share};
 use proof_objects::{Proof, Step};
 use std::alloc::Global;
 use std::marker::Model;
 use std::rc::Rc;
-use terms::{Path, Sequent, Term};
+use terms::{FactName, Path, Sequent, Subst, Term, Terms};
 use worlds::World;
 
 /// A sequent with a world and a proof that concludes it there, so that it holds in this world.
@@ -68,10 +75,22 @@ impl Proved {
         Ok(proved)
     }
 
+    /// Hypothesis: a term from itself.
+    pub fn hyp(alloc: Global, world: &World, p: &Term) -> Ruled
+        ensures ok { IfOk result (λ it. IsProvedBy it world.now (alone (Step.Hyp p.now))) }
+        ensures refused { IsErrOf result RuleError.Refused ↔ (concludes world.now (alone (Step.Hyp p.now)) ≡ None) }
+        ensures limits { IsWithinLimits result }
+    {
+        let sequent = hypothesis(alloc, world, p)?;
+        let step = Step::Hyp(p.share()?);
+        let proved = Proved::of(alloc, world, step, Seq::new(alloc), sequent)?;
+        Ok(proved)
+    }
+
     /// Reflexivity: `(equal a a)`.
     pub fn refl(alloc: Global, world: &World, a: &Term) -> Ruled
-        ensures ok { IfOk result (λ it. IsProvedBy it world.now (By (Step.Refl a.now) NoMore)) }
-        ensures refused { IsErrOf result RuleError.Refused ↔ (concludes world.now (By (Step.Refl a.now) NoMore) ≡ None) }
+        ensures ok { IfOk result (λ it. IsProvedBy it world.now (alone (Step.Refl a.now))) }
+        ensures refused { IsErrOf result RuleError.Refused ↔ (concludes world.now (alone (Step.Refl a.now)) ≡ None) }
         ensures limits { IsWithinLimits result }
     {
         let sequent = reflexive(alloc, world, a)?;
@@ -83,8 +102,8 @@ impl Proved {
     /// Replace: `eq` says `(equal a b)`, and the goal of `on` has a at the path, where b is put.
     pub fn replace(alloc: Global, eq: &Proved, on: &Proved, path: &Path) -> Ruled
         requires { eq.now.world ≡ on.now.world }
-        ensures ok { IfOk result (λ it. IsProvedBy it eq.now.world (By (Step.Replace path.now) (trees (eq.now.proof ∷ on.now.proof ∷ [])))) }
-        ensures refused { IsErrOf result RuleError.Refused ↔ (concludes eq.now.world (By (Step.Replace path.now) (trees (eq.now.proof ∷ on.now.proof ∷ []))) ≡ None) }
+        ensures ok { IfOk result (λ it. IsProvedBy it eq.now.world (after_both (Step.Replace path.now) eq.now.proof on.now.proof)) }
+        ensures refused { IsErrOf result RuleError.Refused ↔ (concludes eq.now.world (after_both (Step.Replace path.now) eq.now.proof on.now.proof) ≡ None) }
         ensures limits { IsWithinLimits result }
     {
         let sequent = replaced(alloc, &eq.sequent, &on.sequent, path)?;
@@ -95,12 +114,173 @@ impl Proved {
 
     /// Unfold: the call of a function with a definition equals its body at the arguments.
     pub fn unfold(alloc: Global, world: &World, call: &Term) -> Ruled
-        ensures ok { IfOk result (λ it. IsProvedBy it world.now (By (Step.Unfold call.now) NoMore)) }
-        ensures refused { IsErrOf result RuleError.Refused ↔ (concludes world.now (By (Step.Unfold call.now) NoMore) ≡ None) }
+        ensures ok { IfOk result (λ it. IsProvedBy it world.now (alone (Step.Unfold call.now))) }
+        ensures refused { IsErrOf result RuleError.Refused ↔ (concludes world.now (alone (Step.Unfold call.now)) ≡ None) }
         ensures limits { IsWithinLimits result }
     {
         let sequent = unfolded(alloc, world, call)?;
         let step = Step::Unfold(call.share()?);
+        let proved = Proved::of(alloc, world, step, Seq::new(alloc), sequent)?;
+        Ok(proved)
+    }
+
+    /// Substitute: the hypotheses and the goal of `p` under a substitution.
+    pub fn subst(alloc: Global, p: &Proved, s: &Subst) -> Ruled
+        ensures ok { IfOk result (λ it. IsProvedBy it p.now.world (after (Step.Substitute s.now) p.now.proof)) }
+        ensures refused { IsErrOf result RuleError.Refused ↔ (concludes p.now.world (after (Step.Substitute s.now) p.now.proof) ≡ None) }
+        ensures limits { IsWithinLimits result }
+    {
+        let sequent = substituted(alloc, &p.world, &p.sequent, s)?;
+        let step = Step::Substitute(s.copy(alloc)?);
+        let proved = Proved::of(alloc, &p.world, step, only(alloc, p)?, sequent)?;
+        Ok(proved)
+    }
+
+    /// If true: `p` says a, so that `(equal (if a b c) b)`.
+    pub fn if_true(alloc: Global, p: &Proved, b: &Term, c: &Term) -> Ruled
+        ensures ok { IfOk result (λ it. IsProvedBy it p.now.world (after (Step.IfTrue b.now c.now) p.now.proof)) }
+        ensures refused { IsErrOf result RuleError.Refused ↔ (concludes p.now.world (after (Step.IfTrue b.now c.now) p.now.proof) ≡ None) }
+        ensures limits { IsWithinLimits result }
+    {
+        let sequent = if_true(alloc, &p.world, b, c, &p.sequent)?;
+        let step = Step::IfTrue(b.share()?, c.share()?);
+        let proved = Proved::of(alloc, &p.world, step, only(alloc, p)?, sequent)?;
+        Ok(proved)
+    }
+
+    /// If false: `p` says `(not a)`, so that `(equal (if a b c) c)`.
+    pub fn if_false(alloc: Global, p: &Proved, b: &Term, c: &Term) -> Ruled
+        ensures ok { IfOk result (λ it. IsProvedBy it p.now.world (after (Step.IfFalse b.now c.now) p.now.proof)) }
+        ensures refused { IsErrOf result RuleError.Refused ↔ (concludes p.now.world (after (Step.IfFalse b.now c.now) p.now.proof) ≡ None) }
+        ensures limits { IsWithinLimits result }
+    {
+        let sequent = if_false(alloc, &p.world, b, c, &p.sequent)?;
+        let step = Step::IfFalse(b.share()?, c.share()?);
+        let proved = Proved::of(alloc, &p.world, step, only(alloc, p)?, sequent)?;
+        Ok(proved)
+    }
+
+    /// Cases: the same goal where `c` is true and where it is false.
+    pub fn cases(alloc: Global, c: &Term, yes: &Proved, no: &Proved) -> Ruled
+        requires { yes.now.world ≡ no.now.world }
+        ensures ok { IfOk result (λ it. IsProvedBy it yes.now.world (after_both (Step.Cases c.now) yes.now.proof no.now.proof)) }
+        ensures refused { IsErrOf result RuleError.Refused ↔ (concludes yes.now.world (after_both (Step.Cases c.now) yes.now.proof no.now.proof) ≡ None) }
+        ensures limits { IsWithinLimits result }
+    {
+        let sequent = by_cases(alloc, &yes.world, c, &yes.sequent, &no.sequent)?;
+        let step = Step::Cases(c.share()?);
+        let proved = Proved::of(alloc, &yes.world, step, both(alloc, yes, no)?, sequent)?;
+        Ok(proved)
+    }
+
+    /// Cut: what `q` says, where `p` proves one of its hypotheses.
+    pub fn cut(alloc: Global, p: &Proved, q: &Proved) -> Ruled
+        requires { p.now.world ≡ q.now.world }
+        ensures ok { IfOk result (λ it. IsProvedBy it p.now.world (after_both Step.Cut p.now.proof q.now.proof)) }
+        ensures refused { IsErrOf result RuleError.Refused ↔ (concludes p.now.world (after_both Step.Cut p.now.proof q.now.proof) ≡ None) }
+        ensures limits { IsWithinLimits result }
+    {
+        let sequent = cut(alloc, &p.sequent, &q.sequent)?;
+        let step = Step::Cut;
+        let proved = Proved::of(alloc, &p.world, step, both(alloc, p, q)?, sequent)?;
+        Ok(proved)
+    }
+
+    /// Weaken: what `p` says, with further hypotheses and further universals.
+    pub fn weaken(alloc: Global, p: &Proved, hyps: &Terms, universals: &Terms) -> Ruled
+        ensures ok { IfOk result (λ it. IsProvedBy it p.now.world (after (Step.Weaken hyps.now universals.now) p.now.proof)) }
+        ensures refused { IsErrOf result RuleError.Refused ↔ (concludes p.now.world (after (Step.Weaken hyps.now universals.now) p.now.proof) ≡ None) }
+        ensures limits { IsWithinLimits result }
+    {
+        let sequent = weakened(alloc, &p.world, &p.sequent, hyps, universals)?;
+        let step = Step::Weaken(hyps.copy(alloc)?, universals.copy(alloc)?);
+        let proved = Proved::of(alloc, &p.world, step, only(alloc, p)?, sequent)?;
+        Ok(proved)
+    }
+
+    /// Contradiction: `p` says a and `q` says `(not a)`, so that any goal.
+    pub fn contra(alloc: Global, p: &Proved, q: &Proved, goal: &Term) -> Ruled
+        requires { p.now.world ≡ q.now.world }
+        ensures ok { IfOk result (λ it. IsProvedBy it p.now.world (after_both (Step.Contradict goal.now) p.now.proof q.now.proof)) }
+        ensures refused { IsErrOf result RuleError.Refused ↔ (concludes p.now.world (after_both (Step.Contradict goal.now) p.now.proof q.now.proof) ≡ None) }
+        ensures limits { IsWithinLimits result }
+    {
+        let sequent = contradicted(alloc, &p.world, &p.sequent, &q.sequent, goal)?;
+        let step = Step::Contradict(goal.share()?);
+        let proved = Proved::of(alloc, &p.world, step, both(alloc, p, q)?, sequent)?;
+        Ok(proved)
+    }
+
+    /// Axiom: the axiom of this number under a substitution.
+    pub fn axiom(alloc: Global, world: &World, number: u32, s: &Subst) -> Ruled
+        ensures ok { IfOk result (λ it. IsProvedBy it world.now (alone (Step.Axiom number s.now))) }
+        ensures refused { IsErrOf result RuleError.Refused ↔ (concludes world.now (alone (Step.Axiom number s.now)) ≡ None) }
+        ensures limits { IsWithinLimits result }
+    {
+        let sequent = axiom_instance(alloc, world, number, s)?;
+        let step = Step::Axiom(number, s.copy(alloc)?);
+        let proved = Proved::of(alloc, world, step, Seq::new(alloc), sequent)?;
+        Ok(proved)
+    }
+
+    /// Implies in: `(implies h g)` for the goal g of `p`, without h among the hypotheses.
+    pub fn implies_in(alloc: Global, h: &Term, p: &Proved) -> Ruled
+        ensures ok { IfOk result (λ it. IsProvedBy it p.now.world (after (Step.ImpliesIn h.now) p.now.proof)) }
+        ensures refused { IsErrOf result RuleError.Refused ↔ (concludes p.now.world (after (Step.ImpliesIn h.now) p.now.proof) ≡ None) }
+        ensures limits { IsWithinLimits result }
+    {
+        let sequent = implied(alloc, &p.world, h, &p.sequent)?;
+        let step = Step::ImpliesIn(h.share()?);
+        let proved = Proved::of(alloc, &p.world, step, only(alloc, p)?, sequent)?;
+        Ok(proved)
+    }
+
+    /// Implies out: `p` says `(implies a b)` and `q` says a, so that b.
+    pub fn implies_out(alloc: Global, p: &Proved, q: &Proved) -> Ruled
+        requires { p.now.world ≡ q.now.world }
+        ensures ok { IfOk result (λ it. IsProvedBy it p.now.world (after_both Step.ImpliesOut p.now.proof q.now.proof)) }
+        ensures refused { IsErrOf result RuleError.Refused ↔ (concludes p.now.world (after_both Step.ImpliesOut p.now.proof q.now.proof) ≡ None) }
+        ensures limits { IsWithinLimits result }
+    {
+        let sequent = detached(alloc, &p.sequent, &q.sequent)?;
+        let step = Step::ImpliesOut;
+        let proved = Proved::of(alloc, &p.world, step, both(alloc, p, q)?, sequent)?;
+        Ok(proved)
+    }
+
+    /// Universal: a term under a substitution, where it is assumed to be true for all values of its variables.
+    pub fn universal(alloc: Global, world: &World, u: &Term, s: &Subst) -> Ruled
+        ensures ok { IfOk result (λ it. IsProvedBy it world.now (alone (Step.Universal u.now s.now))) }
+        ensures refused { IsErrOf result RuleError.Refused ↔ (concludes world.now (alone (Step.Universal u.now s.now)) ≡ None) }
+        ensures limits { IsWithinLimits result }
+    {
+        let sequent = instantiated(alloc, world, u, s)?;
+        let step = Step::Universal(u.share()?, s.copy(alloc)?);
+        let proved = Proved::of(alloc, world, step, Seq::new(alloc), sequent)?;
+        Ok(proved)
+    }
+
+    /// Discharge: what `q` says, where `p` proves one of its universals, and has no hypotheses.
+    pub fn discharge(alloc: Global, p: &Proved, q: &Proved) -> Ruled
+        requires { p.now.world ≡ q.now.world }
+        ensures ok { IfOk result (λ it. IsProvedBy it p.now.world (after_both Step.Discharge p.now.proof q.now.proof)) }
+        ensures refused { IsErrOf result RuleError.Refused ↔ (concludes p.now.world (after_both Step.Discharge p.now.proof q.now.proof) ≡ None) }
+        ensures limits { IsWithinLimits result }
+    {
+        let sequent = discharged(alloc, &p.sequent, &q.sequent)?;
+        let step = Step::Discharge;
+        let proved = Proved::of(alloc, &p.world, step, both(alloc, p, q)?, sequent)?;
+        Ok(proved)
+    }
+
+    /// Theorem: a fact of the world.
+    pub fn theorem(alloc: Global, world: &World, fact: &FactName) -> Ruled
+        ensures ok { IfOk result (λ it. IsProvedBy it world.now (alone (Step.Theorem fact.now))) }
+        ensures refused { IsErrOf result RuleError.Refused ↔ (concludes world.now (alone (Step.Theorem fact.now)) ≡ None) }
+        ensures limits { IsWithinLimits result }
+    {
+        let sequent = fact_of(alloc, world, fact)?;
+        let step = Step::Theorem(shared(fact)?);
         let proved = Proved::of(alloc, world, step, Seq::new(alloc), sequent)?;
         Ok(proved)
     }
@@ -195,6 +375,14 @@ fn proofs(alloc: Global, premises: &[Proved]) -> Result<Seq<Proof>, Memory>
     for premise in premises {
         proofs.push(premise.proof.share()?)?;
     }
+    Ok(proofs)
+}
+
+fn only(alloc: Global, p: &Proved) -> Result<Seq<Proof>, Memory>
+    ensures { IfOk result (λ ps. ps ≡ p.now.proof ∷ []) }
+{
+    let mut proofs = Seq::new(alloc);
+    proofs.push(p.proof.share()?)?;
     Ok(proofs)
 }
 

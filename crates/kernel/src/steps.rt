@@ -4,7 +4,8 @@ ghost use Rattle.std.specs.Prelude.{◌≡◌, IfOk, IfSome, IsErrOf, None, Some
 ghost use Rattle.std.specs.Option.{option_copied, option_map};
 ghost use Rattle.kernel.specs.Conclude.{code_of};
 ghost use Rattle.kernel.specs.Conclusion.{sequents_of, AllIn};
-ghost use Rattle.kernel.specs.StepLists.{item, items, line_concludes};
+ghost use Rattle.kernel.specs.Facts.{item};
+ghost use Rattle.kernel.specs.StepLists.{items, line_concludes};
 ghost use Rattle.kernel.specs.Answers.{IfLimit};
 
 use crate::errors::RuleError;

@@ -8,7 +8,7 @@ use lisp_data::{Seq, Symbol};
 use proof_objects::{Proof, Rule, Step};
 use std::alloc::Global;
 use std::test::Fail;
-use terms::{Definition, Path, Term};
+use terms::{Definition, FactName, Path, Subst, Term, Terms, at_path};
 use worlds::World;
 
 fn x(alloc: Global) -> Result<Term, Fail>
@@ -95,5 +95,100 @@ fn finds_the_first_bad_node(rt: HostRuntime) -> Result<(), Fail> {
         rule: RuleName::Rule(Rule::Unfold),
     };
     assert_eq!(rt; answer, Err(expected));
+    Ok(())
+}
+
+fn not_x(alloc: Global) -> Result<Term, Fail> {
+    let x = x(alloc)?;
+    call_of_one(alloc, "NOT", x)
+}
+
+fn x_is_x(alloc: Global) -> Result<Term, Fail> {
+    call_of_two(alloc, "EQUAL", x(alloc)?, x(alloc)?)
+}
+
+fn one(alloc: Global, term: Term) -> Result<Terms, Fail> {
+    let mut terms = Seq::new(alloc);
+    terms.push(term)?;
+    Ok(terms)
+}
+
+#[test]
+fn chooses_branches(rt: HostRuntime) -> Result<(), Fail> {
+    let alloc = rt.alloc();
+    let world = World::initial(alloc)?;
+    let equation = x_is_x(alloc)?;
+    let held = Proved::hyp(alloc, &world, &x(alloc)?)?;
+    let first = Proved::if_true(alloc, &held, &equation, &x(alloc)?)?;
+    let call = at_argument(alloc, &first, 1)?;
+    assert!(rt; at_argument(alloc, &first, 2)?.same(&equation));
+    let negated = Proved::hyp(alloc, &world, &not_x(alloc)?)?;
+    let second = Proved::if_false(alloc, &negated, &equation, &x(alloc)?)?;
+    assert!(rt; at_argument(alloc, &second, 1)?.same(&call));
+    assert!(rt; at_argument(alloc, &second, 2)?.same(&x(alloc)?));
+    Ok(())
+}
+
+fn at_argument(alloc: Global, proved: &Proved, number: u32) -> Result<Term, Fail> {
+    let path = Path::from_slice(alloc, &[number])?;
+    let Some(part) = at_path(&proved.sequent().goal, &path) else {
+        return Err("no such argument".into());
+    };
+    let part = part.share()?;
+    Ok(part)
+}
+
+#[test]
+fn cuts_and_takes_cases(rt: HostRuntime) -> Result<(), Fail> {
+    let alloc = rt.alloc();
+    let world = World::initial(alloc)?;
+    let same = Proved::refl(alloc, &world, &x(alloc)?)?;
+    let none = Seq::new(alloc);
+    let where_x = Proved::weaken(alloc, &same, &one(alloc, x(alloc)?)?, &none)?;
+    let other = one(alloc, not_x(alloc)?)?;
+    let where_not = Proved::weaken(alloc, &same, &other, &other)?;
+    assert_eq!(rt; where_not.sequent().universals.len(), 1);
+    let cases = Proved::cases(alloc, &x(alloc)?, &where_x, &where_not)?;
+    assert_eq!(rt; cases.sequent().hyps.len(), 0);
+    let assumed = Proved::hyp(alloc, &world, &x_is_x(alloc)?)?;
+    let cut = Proved::cut(alloc, &same, &assumed)?;
+    assert_eq!(rt; cut.sequent().hyps.len(), 0);
+    Ok(())
+}
+
+#[test]
+fn implies_and_contradicts(rt: HostRuntime) -> Result<(), Fail> {
+    let alloc = rt.alloc();
+    let world = World::initial(alloc)?;
+    let held = Proved::hyp(alloc, &world, &x(alloc)?)?;
+    let implied = Proved::implies_in(alloc, &x(alloc)?, &held)?;
+    assert_eq!(rt; implied.sequent().hyps.len(), 0);
+    let detached = Proved::implies_out(alloc, &implied, &held)?;
+    assert!(rt; detached.sequent().goal.same(&x(alloc)?));
+    let negated = Proved::hyp(alloc, &world, &not_x(alloc)?)?;
+    let any = Proved::contra(alloc, &held, &negated, &x_is_x(alloc)?)?;
+    assert_eq!(rt; any.sequent().hyps.len(), 2);
+    let mut s = Subst::new(alloc);
+    s.push(Symbol::new(alloc, "X")?, x_is_x(alloc)?)?;
+    let instance = Proved::subst(alloc, &held, &s)?;
+    assert!(rt; instance.sequent().goal.same(&any.sequent().goal));
+    let checked = check(alloc, &world, any.proof())?;
+    assert!(rt; checked.sequent().goal.same(&any.sequent().goal));
+    Ok(())
+}
+
+#[test]
+fn takes_an_axiom(rt: HostRuntime) -> Result<(), Fail> {
+    let alloc = rt.alloc();
+    let world = World::initial(alloc)?;
+    let mut s = Subst::new(alloc);
+    s.push(Symbol::new(alloc, "Y")?, not_x(alloc)?)?;
+    let car = Proved::axiom(alloc, &world, 8, &s)?;
+    let pair = call_of_two(alloc, "CONS", x(alloc)?, not_x(alloc)?)?;
+    let first = call_of_one(alloc, "CAR", pair)?;
+    let goal = call_of_two(alloc, "EQUAL", first, x(alloc)?)?;
+    assert!(rt; car.sequent().goal.same(&goal));
+    let checked = check(alloc, &world, car.proof())?;
+    assert!(rt; checked.sequent().goal.same(&goal));
     Ok(())
 }

@@ -1,14 +1,19 @@
 -- Atoms, case by case.
-use Rattle.std.proofs.Common.{◌≡◌, ℕ, ◌<◌, ◌^◌, ℤ, pos, negsuc, Bool, true, false, cond, ◌&&◌, ◌||◌, nat_eq, nat_lt, List, [], ◌∷◌, length, get_or, drop, refl, ap, sym, subst, ◌∙◌, arith, ltb-true}
+use Rattle.std.proofs.Common.{◌≡◌, ℕ, ◌<◌, ◌^◌, ℤ, pos, negsuc, Bool, true, false, cond, ◌&&◌, ◌||◌, nat_eq, nat_lt, List, [], ◌∷◌, length, get_or, drop, take, min, refl, ap, sym, subst, ◌∙◌, arith, ltb-true}
 use Rattle.std.proofs.lemmas.Bool.Decides.{nat_tests}
-use Rattle.std.proofs.lemmas.List.{take_rest}
-use Rattle.std.specs.List.{fold, list_all, position}
+use Rattle.std.proofs.lemmas.List.{take_rest, take_min}
+use Rattle.std.specs.List.{fold, list_all}
 use Rattle.std.specs.Int.{w128}
 use Rattle.std.specs.Prelude.{FitsSigned}
 use Rattle.std.specs.Char.{is_ascii_digit, digit_value}
 use Rattle.std.specs.Str.Parse.{IsNumeral, AllDigits, signed_digits_value, without_leading_sign}
-use Rattle.lisp_data.specs.Atoms.{Shape, Start, Sign, Whole, Slash, Ratio, Bare, Pointed, Part, Exponent, ExponentSign, Power, NoNumber, Integer, Point, Wrong, is_sign, is_exponent, grown, after_digit, after_other, shape_of, integer, is_odd, worded, leaf}
-use Rattle.lisp_data.specs.declared.code.Code.TheVariants.{BadByte, BadDot, IntegerTooWide, BookTooLong}
+use Rattle.lisp_data.specs.Atoms.{Leaf, Integer, Wrong, integer, is_narrow, word, is_odd, odd, points, leaf}
+use Rattle.lisp_data.specs.Numbers.{is_sign, is_exponent, is_integer, is_bad_number, begins_number}
+use Rattle.lisp_data.specs.view.Automaton.{grown, after_digit, after_other, shape_of, shaped}
+use Rattle.lisp_data.specs.declared.atom.Shape.{Shape}
+use Rattle.lisp_data.specs.declared.atom.Shape.TheVariants.{Start, Sign, Whole, Slash, Ratio, Bare, Pointed, Part, Exponent, ExponentSign, Power, NoNumber}
+use Rattle.lisp_data.proofs.NumberForms.{is_whole, is_bad, is_front, integer-shape, bad-shape, front-shape}
+use Rattle.lisp_data.specs.declared.code.Code.TheVariants.{BadByte, BadNumber, IntegerTooWide, BookTooLong}
 
 or-nothing : (a b : Bool) → (a || b) ≡ (a || (true && b))
 or-nothing true b = refl
@@ -25,14 +30,61 @@ is_odd-at (x ∷ y ∷ xs) h =
     let long : nat_eq (length (x ∷ y ∷ xs)) 1 ≡ false = grind (arith, nat_tests) in
     or-none (nat_eq x 35) (nat_eq x 58) ∙ ap (λ c. nat_eq x 35 || (c && nat_eq x 58)) (sym long)
 
-pub ruleset odd = (is_odd-at)
+pub ruleset odds = (is_odd-at)
 
-pub leaf-is : (cut : Bool) (r : List ℕ) → leaf cut r ≡ cond (is_odd r) (cond (cut && nat_eq (length r) 1) (Wrong BookTooLong 1) (Wrong BadByte 0))
-    (cond (list_all (λ b. nat_eq b 46) r) (cond cut (Wrong BookTooLong (length r)) (cond (nat_eq (length r) 1) Point (Wrong BadDot 0))) (worded cut r (position (λ b. nat_eq b 58) (drop 1 r))))
+-- what is left of an atom's cases, by its shape
+shape-cases : (cut : Bool) (r : List ℕ) (s : Shape) →
+    cond (cut && is_front s) (Wrong BookTooLong (length r)) (cond (is_whole s) (integer (signed_digits_value 10 r)) (cond (is_bad s) (Wrong BadNumber 0) (word cut r))) ≡ shaped cut r s
+shape-cases true r Start = refl
+shape-cases true r Sign = refl
+shape-cases true r Whole = refl
+shape-cases true r Slash = refl
+shape-cases true r Ratio = refl
+shape-cases true r Bare = refl
+shape-cases true r Pointed = refl
+shape-cases true r Part = refl
+shape-cases true r Exponent = refl
+shape-cases true r ExponentSign = refl
+shape-cases true r Power = refl
+shape-cases true r NoNumber = refl
+shape-cases false r Start = refl
+shape-cases false r Sign = refl
+shape-cases false r Whole = refl
+shape-cases false r Slash = refl
+shape-cases false r Ratio = refl
+shape-cases false r Bare = refl
+shape-cases false r Pointed = refl
+shape-cases false r Part = refl
+shape-cases false r Exponent = refl
+shape-cases false r ExponentSign = refl
+shape-cases false r Power = refl
+shape-cases false r NoNumber = refl
+
+pub leaf-is : (cut : Bool) (r : List ℕ) → leaf cut r ≡ cond (is_odd r) (odd cut r) (cond (list_all (λ b. nat_eq b 46) r) (points cut r) (shaped cut r (shape_of r)))
 unfolding leaf
-leaf-is cut r = refl
+leaf-is cut r =
+    let numbers : cond (cut && begins_number r) (Wrong BookTooLong (length r)) (cond (is_integer r) (integer (signed_digits_value 10 r)) (cond (is_bad_number r) (Wrong BadNumber 0) (word cut r))) ≡ shaped cut r (shape_of r) =
+    ((λ i. cond (cut && front-shape r i) (Wrong BookTooLong (length r)) (cond (integer-shape r i) (integer (signed_digits_value 10 r)) (cond (bad-shape r i) (Wrong BadNumber 0) (word cut r)))) ∙ shape-cases cut r (shape_of r)) in
+    ap (λ x. cond (is_odd r) (odd cut r) (cond (list_all (λ b. nat_eq b 46) r) (points cut r) x)) numbers
 
-pub ruleset atoms = (leaf-is, take_rest)
+-- an odd atom is neither an integer nor a symbol
+pub odd-leaf : (r : List ℕ) → is_odd r ≡ true → leaf false r ≡ Wrong BadByte 0
+odd-leaf r h = leaf-is false r ∙ ap (λ c. cond c (Wrong BadByte 0) (cond (list_all (λ b. nat_eq b 46) r) (points false r) (shaped false r (shape_of r)))) h
+
+-- what the cases of an atom come to, where it is an integer of 128 bits
+pub integer-leaf : (r : List ℕ) (z : ℤ) → is_odd r ≡ false → list_all (λ b. nat_eq b 46) r ≡ false → is_integer r ≡ true → signed_digits_value 10 r ≡ z → is_narrow z ≡ true → leaf false r ≡ Integer z
+unfolding leaf
+integer-leaf r z h p whole value narrow =
+    let later : Leaf = cond (is_bad_number r) (Wrong BadNumber 0) (word false r) in
+    ap (λ c. cond c (odd false r) (cond (list_all (λ b. nat_eq b 46) r) (points false r) (cond (is_integer r) (integer (signed_digits_value 10 r)) later))) h
+    ∙ ap (λ c. cond c (points false r) (cond (is_integer r) (integer (signed_digits_value 10 r)) later)) p
+    ∙ ap (λ c. cond c (integer (signed_digits_value 10 r)) later) whole ∙ ap integer value ∙ ap (λ c. cond c (Integer z) (Wrong IntegerTooWide 0)) narrow
+
+-- the front of a text, cut at its end
+pub front-cut : (r : List ℕ) → take (min (length r) 256) r ≡ take 256 r
+front-cut r = let e : min (length r) 256 ≡ min 256 (length r) = omega arith in ap (λ n. take n r) e ∙ take_min 256 r
+
+pub ruleset atoms = (leaf-is, take_rest, front-cut)
 
 -- a shape that no integer has, nor anything that begins with it
 abbrev IsLate : Shape → Type 0

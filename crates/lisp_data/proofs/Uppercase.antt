@@ -1,16 +1,21 @@
 -- Upper case keeps what an atom is.
-use Rattle.std.proofs.Common.{◌≡◌, ℕ, ◌+◌, ◌<◌, Bool, true, false, cond, ◌&&◌, ◌||◌, not, nat_eq, nat_lt, Option, Some, None, List, [], ◌∷◌, length, map, drop, refl, ap, sym, subst, ◌∙◌, arith}
+use Rattle.std.proofs.Common.{◌≡◌, ℕ, ◌+◌, ◌<◌, Bool, true, false, cond, ◌&&◌, ◌||◌, not, nat_eq, nat_lt, Option, Some, None, List, [], ◌∷◌, length, map, take, drop, refl, ap, sym, subst, ◌∙◌, arith}
 use Rattle.std.proofs.lemmas.Bool.Decides.{nat_tests}
-use Rattle.std.proofs.lemmas.List.{length-map, drop-map}
+use Rattle.std.proofs.lemmas.List.{length-map, drop-map, take-map}
 use Rattle.std.proofs.lemmas.Str.Ascii.{uppercase-uppercase}
 use Rattle.std.specs.List.{fold, list_all, position, prefix_len}
 use Rattle.std.specs.Char.{is_ascii_digit, to_ascii_uppercase as up}
 use Rattle.std.specs.Prelude.{ℤ}
 use Rattle.std.specs.Str.Parse.{signed_digits_value}
-use Rattle.lisp_data.specs.Atoms.{Shape, Start, Sign, Whole, Slash, Ratio, Bare, Pointed, Part, Exponent, ExponentSign, Power, NoNumber, Leaf, Integer, Named, Point, Wrong, is_delimiter, in_atom, is_sign, is_exponent, grown, after_digit, after_other, shape_of, is_odd, integer, is_narrow, symbol, shaped, worded, leaf}
+use Rattle.lisp_data.specs.Atoms.{Leaf, Integer, Named, Point, Wrong, is_delimiter, in_atom, is_odd, integer, is_narrow, word_by, leaf}
+use Rattle.lisp_data.specs.Numbers.{is_sign, is_exponent}
+use Rattle.lisp_data.specs.view.Automaton.{grown, after_digit, after_other, shape_of, shaped}
+use Rattle.lisp_data.specs.declared.atom.Shape.{Shape}
+use Rattle.lisp_data.specs.declared.atom.Shape.TheVariants.{Start, Sign, Whole, Slash, Ratio, Bare, Pointed, Part, Exponent, ExponentSign, Power, NoNumber}
+use Rattle.lisp_data.proofs.AtomSteps.{leaf-is}
 use Rattle.std.specs.Cmp.Lexicographic.{bytes_decides}
 use Rattle.lisp_data.specs.SymbolText.{NamesSymbol, IsSymbolText, is_named, is_symbol_text}
-use Rattle.lisp_data.specs.declared.code.Code.TheVariants.{BadByte, BadDot, IntegerTooWide, SymbolTooLong}
+use Rattle.lisp_data.specs.declared.code.Code.TheVariants.{BadByte, BadDot, BadNumber, IntegerTooWide, SymbolTooLong}
 
 same-byte : (b k : ℕ) → k < 65 → nat_eq (up b) k ≡ nat_eq b k
 same-byte b k h = grind (arith, nat_tests)
@@ -88,34 +93,61 @@ same-atom (b ∷ t) h =
     both : (a c : Bool) → a ≡ true → c ≡ true → (a && c) ≡ true
     both a c p q = λ i. p i && q i
 
--- an atom, from what its cases ask
-later_part : Option ℕ → Shape → List ℕ → Leaf
-later_part None shape r = shaped false r shape
-later_part (Some i) shape r = cond (nat_lt i 255) (Wrong BadByte (i + 1)) (Wrong SymbolTooLong 255)
+-- the place of the colon that matters
+abbrev colon_of : List ℕ → Option ℕ
+colon_of r = position (λ b. nat_eq b 58) (drop 1 (take 256 r))
 
+-- an atom of a shape, from the place of its colon
+by_shape : Option ℕ → Shape → List ℕ → Leaf
+by_shape o Start r = word_by false r o
+by_shape o Sign r = word_by false r o
+by_shape o Whole r = integer (signed_digits_value 10 r)
+by_shape o Slash r = word_by false r o
+by_shape o Ratio r = Wrong BadNumber 0
+by_shape o Bare r = word_by false r o
+by_shape o Pointed r = Wrong BadNumber 0
+by_shape o Part r = Wrong BadNumber 0
+by_shape o Exponent r = word_by false r o
+by_shape o ExponentSign r = word_by false r o
+by_shape o Power r = Wrong BadNumber 0
+by_shape o NoNumber r = word_by false r o
+
+shaped-by : (shape : Shape) (r : List ℕ) → shaped false r shape ≡ by_shape (colon_of r) shape r
+unfolding by_shape
+shaped-by Start r = refl
+shaped-by Sign r = refl
+shaped-by Whole r = refl
+shaped-by Slash r = refl
+shaped-by Ratio r = refl
+shaped-by Bare r = refl
+shaped-by Pointed r = refl
+shaped-by Part r = refl
+shaped-by Exponent r = refl
+shaped-by ExponentSign r = refl
+shaped-by Power r = refl
+shaped-by NoNumber r = refl
+
+-- an atom, from what its cases ask
 parts : Bool → Bool → ℕ → Option ℕ → Shape → List ℕ → Leaf
 parts true points len o shape r = Wrong BadByte 0
 parts false true len o shape r = cond (nat_eq len 1) Point (Wrong BadDot 0)
-parts false false len o shape r = later_part o shape r
+parts false false len o shape r = by_shape o shape r
 
-worded-parts : (r : List ℕ) (o : Option ℕ) → worded false r o ≡ later_part o (shape_of r) r
-unfolding later_part
-worded-parts r None = refl
-worded-parts r (Some i) = refl
-
-leaf-parts : (r : List ℕ) → leaf false r ≡ parts (is_odd r) (list_all (λ b. nat_eq b 46) r) (length r) (position (λ b. nat_eq b 58) (drop 1 r)) (shape_of r) r
-unfolding leaf parts
-leaf-parts r = on (is_odd r) (list_all (λ b. nat_eq b 46) r)
+leaf-parts : (r : List ℕ) → leaf false r ≡ parts (is_odd r) (list_all (λ b. nat_eq b 46) r) (length r) (colon_of r) (shape_of r) r
+unfolding parts
+leaf-parts r = leaf-is false r ∙ on (is_odd r) (list_all (λ b. nat_eq b 46) r)
   where
-    on : (odd points : Bool) → cond odd (Wrong BadByte 0) (cond points (cond (nat_eq (length r) 1) Point (Wrong BadDot 0)) (worded false r (position (λ b. nat_eq b 58) (drop 1 r))))
-        ≡ parts odd points (length r) (position (λ b. nat_eq b 58) (drop 1 r)) (shape_of r) r
+    on : (odd points : Bool) → cond odd (Wrong BadByte 0) (cond points (cond (nat_eq (length r) 1) Point (Wrong BadDot 0)) (shaped false r (shape_of r)))
+        ≡ parts odd points (length r) (colon_of r) (shape_of r) r
     on true points = refl
     on false true = refl
-    on false false = worded-parts r (position (λ b. nat_eq b 58) (drop 1 r))
+    on false false = shaped-by (shape_of r) r
 
-raised-parts : (r : List ℕ) → leaf false (map up r) ≡ parts (is_odd r) (list_all (λ b. nat_eq b 46) r) (length r) (position (λ b. nat_eq b 58) (drop 1 r)) (shape_of r) (map up r)
+raised-parts : (r : List ℕ) → leaf false (map up r) ≡ parts (is_odd r) (list_all (λ b. nat_eq b 46) r) (length r) (colon_of r) (shape_of r) (map up r)
 raised-parts r =
-    let colon = ap (position (λ b. nat_eq b 58)) (drop-map up 1 r) ∙ same-colon (drop 1 r) in
+    let front : take 256 (map up r) ≡ map up (take 256 r) = take-map up 256 r in
+    let colon : colon_of (map up r) ≡ colon_of r =
+    (ap (λ t. position (λ b. nat_eq b 58) (drop 1 t)) front ∙ ap (position (λ b. nat_eq b 58)) (drop-map up 1 (take 256 r)) ∙ same-colon (drop 1 (take 256 r))) in
     leaf-parts (map up r) ∙ λ i. parts (same-odd r i) (same-points r i) (length-map r up i) (colon i) (same-shape Start r i) (map up r)
 
 integer-apart : (z : ℤ) (s : List ℕ) → integer z ≡ Named s → ⊥
@@ -125,35 +157,28 @@ integer-apart z s h = on (is_narrow z) h
     on true e = cc
     on false e = cc
 
-symbol-named : (r s q : List ℕ) → length q ≡ length r → symbol false r ≡ Named s → (s ≡ map up r) × (symbol false q ≡ Named (map up q))
-symbol-named r s q n h = on (nat_lt 255 (length r)) refl h
+word-named : (o : Option ℕ) (r s q : List ℕ) → length q ≡ length r → word_by false r o ≡ Named s → (s ≡ map up r) × (word_by false q o ≡ Named (map up q))
+word-named (Some i) r s q n h = cc
+word-named None r s q n h = on (nat_lt 255 (length r)) refl h
   where
-    on : (c : Bool) → nat_lt 255 (length r) ≡ c → cond c (Wrong SymbolTooLong 255) (Named (map up r)) ≡ Named s → (s ≡ map up r) × (symbol false q ≡ Named (map up q))
+    on : (c : Bool) → nat_lt 255 (length r) ≡ c → cond c (Wrong SymbolTooLong 255) (Named (map up r)) ≡ Named s → (s ≡ map up r) × (word_by false q None ≡ Named (map up q))
     on true e k = cc
     on false e k = (cc, ap (λ m. cond (nat_lt 255 m) (Wrong SymbolTooLong 255) (Named (map up q))) n ∙ ap (λ c. cond c (Wrong SymbolTooLong 255) (Named (map up q))) e)
 
-shaped-named : (shape : Shape) (r s q : List ℕ) → length q ≡ length r → shaped false r shape ≡ Named s → (s ≡ map up r) × (shaped false q shape ≡ Named (map up q))
-shaped-named Start r s q n h = symbol-named r s q n h
-shaped-named Sign r s q n h = symbol-named r s q n h
-shaped-named Whole r s q n h = absurd (integer-apart (signed_digits_value 10 r) s h)
-shaped-named Slash r s q n h = symbol-named r s q n h
-shaped-named Ratio r s q n h = cc
-shaped-named Bare r s q n h = symbol-named r s q n h
-shaped-named Pointed r s q n h = cc
-shaped-named Part r s q n h = cc
-shaped-named Exponent r s q n h = symbol-named r s q n h
-shaped-named ExponentSign r s q n h = symbol-named r s q n h
-shaped-named Power r s q n h = cc
-shaped-named NoNumber r s q n h = symbol-named r s q n h
-
-later-named : (o : Option ℕ) (shape : Shape) (r s q : List ℕ) → length q ≡ length r → later_part o shape r ≡ Named s → (s ≡ map up r) × (later_part o shape q ≡ Named (map up q))
-unfolding later_part
-later-named None shape r s q n h = shaped-named shape r s q n h
-later-named (Some i) shape r s q n h = on (nat_lt i 255) h
-  where
-    on : (c : Bool) → cond c (Wrong BadByte (i + 1)) (Wrong SymbolTooLong 255) ≡ Named s → (s ≡ map up r) × (cond (nat_lt i 255) (Wrong BadByte (i + 1)) (Wrong SymbolTooLong 255) ≡ Named (map up q))
-    on true e = cc
-    on false e = cc
+shaped-named : (o : Option ℕ) (shape : Shape) (r s q : List ℕ) → length q ≡ length r → by_shape o shape r ≡ Named s → (s ≡ map up r) × (by_shape o shape q ≡ Named (map up q))
+unfolding by_shape
+shaped-named o Start r s q n h = word-named o r s q n h
+shaped-named o Sign r s q n h = word-named o r s q n h
+shaped-named o Whole r s q n h = absurd (integer-apart (signed_digits_value 10 r) s h)
+shaped-named o Slash r s q n h = word-named o r s q n h
+shaped-named o Ratio r s q n h = cc
+shaped-named o Bare r s q n h = word-named o r s q n h
+shaped-named o Pointed r s q n h = cc
+shaped-named o Part r s q n h = cc
+shaped-named o Exponent r s q n h = word-named o r s q n h
+shaped-named o ExponentSign r s q n h = word-named o r s q n h
+shaped-named o Power r s q n h = cc
+shaped-named o NoNumber r s q n h = word-named o r s q n h
 
 parts-named : (odd points : Bool) (len : ℕ) (o : Option ℕ) (shape : Shape) (r s q : List ℕ) → length q ≡ length r → parts odd points len o shape r ≡ Named s →
     (s ≡ map up r) × (parts odd points len o shape q ≡ Named (map up q))
@@ -164,7 +189,7 @@ parts-named false true len o shape r s q n h = on (nat_eq len 1) h
     on : (c : Bool) → cond c Point (Wrong BadDot 0) ≡ Named s → (s ≡ map up r) × (cond (nat_eq len 1) Point (Wrong BadDot 0) ≡ Named (map up q))
     on true e = cc
     on false e = cc
-parts-named false false len o shape r s q n h = later-named o shape r s q n h
+parts-named false false len o shape r s q n h = shaped-named o shape r s q n h
 
 -- the symbol that a text names is the text in upper case
 pub named-is : (text s : List ℕ) → leaf false text ≡ Named s → s ≡ map up text

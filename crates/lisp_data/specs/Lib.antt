@@ -1,6 +1,7 @@
 pub mod Codes
+pub mod Numbers
 pub mod Atoms
-pub mod AtomView
+pub mod view
 pub mod SymbolText
 pub mod Values
 pub mod ValueView

@@ -1,11 +1,12 @@
 //! What the atoms of a book are.
 
-ghost use Rattle.std.specs.Prelude.{◌≡◌, ◌<◌, ◌≤◌, nat_eq, length, drop, map, false};
+ghost use Rattle.std.specs.Prelude.{◌≡◌, ◌+◌, ◌<◌, ◌≤◌, nat_eq, length, take, drop, map, false, IfSome};
 ghost use Rattle.std.specs.List.{list_all, position};
 ghost use Rattle.std.specs.Char.{to_ascii_uppercase};
 ghost use Rattle.std.specs.Str.Parse.{signed_digits_value};
 ghost use Rattle.lisp_data.specs.Atoms as spec;
-ghost use Rattle.lisp_data.specs.AtomView.{seen_shape, leaf_of, IsNear};
+ghost use Rattle.lisp_data.specs.view.AtomView.{leaf_of, IsNear};
+ghost use Rattle.lisp_data.specs.view.Automaton as view;
 
 use crate::code::Code;
 
@@ -56,14 +57,14 @@ pub fn in_atom(b: u8) -> bool
     32 < b && b < 127 && !is_delimiter(b)
 }
 
-#[tactic(auto, unfolding(crate::specs::Atoms::is_sign))]
+#[tactic(auto, unfolding(crate::specs::Numbers::is_sign))]
 fn is_sign(b: u8) -> bool
     ensures { result ≡ spec.is_sign b }
 {
     matches!(b, b'+' | b'-')
 }
 
-#[tactic(auto, unfolding(crate::specs::Atoms::is_exponent))]
+#[tactic(auto, unfolding(crate::specs::Numbers::is_exponent))]
 fn is_exponent(b: u8) -> bool
     ensures { result ≡ spec.is_exponent b }
 {
@@ -75,7 +76,7 @@ fn is_exponent(b: u8) -> bool
 
 impl Shape {
     fn after_digit(self) -> Shape
-        ensures { seen_shape result ≡ spec.after_digit (seen_shape self) }
+        ensures { result ≡ view.after_digit self }
     {
         match self {
             Shape::Start | Shape::Sign | Shape::Whole => Shape::Whole,
@@ -87,7 +88,7 @@ impl Shape {
     }
 
     fn after_other(self, b: u8) -> Shape
-        ensures { seen_shape result ≡ spec.after_other (seen_shape self) b }
+        ensures { result ≡ view.after_other self b }
     {
         match self {
             Shape::Start if is_sign(b) => Shape::Sign,
@@ -102,7 +103,7 @@ impl Shape {
 
     /// The shape with one more byte.
     fn grown(self, b: u8) -> Shape
-        ensures { seen_shape result ≡ spec.grown (seen_shape self) b }
+        ensures { result ≡ view.grown self b }
     {
         if b.is_ascii_digit() {
             self.after_digit()
@@ -112,7 +113,7 @@ impl Shape {
     }
 
     fn of(atom: &[u8]) -> Shape
-        ensures { seen_shape result ≡ spec.shape_of atom.now }
+        ensures { result ≡ view.shape_of atom.now }
     {
         let mut shape = Shape::Start;
         for b in atom {
@@ -137,23 +138,26 @@ fn is_all_points(atom: &[u8]) -> bool
 
 /// The place of the first colon.
 fn colon(bytes: &[u8]) -> Option<usize>
-    ensures { result ≡ position (λ b. nat_eq b 58) bytes.now }
+    ensures place { result ≡ position (λ b. nat_eq b 58) bytes.now }
+    ensures within { IfSome result (λ place. place < length bytes.now) }
 {
     bytes.iter().position(|b| *b == b':')
 }
 
-/// The place of the first colon past the first byte, counted from the second.
+/// The place of the first colon past the first byte, counted from the second, among the 256 first bytes.
 #[tactic(auto, using(crate::proofs::AtomSteps::atoms))]
 fn late_colon(atom: &[u8]) -> Option<usize>
     requires { 0 < length atom.now }
-    ensures { result ≡ position (λ b. nat_eq b 58) (drop 1 atom.now) }
+    ensures place { result ≡ position (λ b. nat_eq b 58) (drop 1 (take 256 atom.now)) }
+    ensures within { IfSome result (λ place. place + 1 < length atom.now) }
 {
-    colon(&atom[1..])
+    let len = atom.len().min(256);
+    colon(&atom[..len][1..])
 }
 
 /// The integer of a numeral.
 fn integer(numeral: &str) -> Atom
-    requires { spec.shape_of numeral.now ≡ spec.Whole }
+    requires { view.shape_of numeral.now ≡ Shape.Whole }
     ensures value { leaf_of numeral.now result ≡ spec.integer (signed_digits_value 10 numeral.now) }
     ensures near { IsNear 0 result }
 {
@@ -163,36 +167,66 @@ fn integer(numeral: &str) -> Atom
     }
 }
 
-fn symbol(text: &str, cut: bool) -> Atom
-    ensures value { leaf_of text.now result ≡ spec.symbol cut text.now }
-    ensures whole { result ≡ Atom.Symbol → spec.symbol false text.now ≡ spec.Named (map to_ascii_uppercase text.now) }
+/// An atom that is no number and can't become one.
+fn word(text: &str, cut: bool) -> Atom
+    requires { 0 < length text.now }
+    ensures value { leaf_of text.now result ≡ spec.word cut text.now }
+    ensures whole { result ≡ Atom.Symbol → spec.word false text.now ≡ spec.Named (map to_ascii_uppercase text.now) }
     ensures near { IsNear (length text.now) result }
 {
-    if text.len() > 255 {
-        Atom::Wrong(Code::SymbolTooLong, 255)
-    } else if cut {
-        Atom::Wrong(Code::BookTooLong, text.len())
-    } else {
-        Atom::Symbol
+    match late_colon(text.as_bytes()) {
+        Some(place) => Atom::Wrong(Code::BadByte, place + 1),
+        None if text.len() > 255 => Atom::Wrong(Code::SymbolTooLong, 255),
+        None if cut => Atom::Wrong(Code::BookTooLong, text.len()),
+        None => Atom::Symbol,
     }
 }
 
 /// An atom whose shape is known.
 fn shaped(text: &str, cut: bool, shape: Shape) -> Atom
-    requires { seen_shape shape ≡ spec.shape_of text.now }
-    ensures value { leaf_of text.now result ≡ spec.shaped cut text.now (seen_shape shape) }
-    ensures whole { result ≡ Atom.Symbol → spec.shaped false text.now (seen_shape shape) ≡ spec.Named (map to_ascii_uppercase text.now) }
+    requires some { 0 < length text.now }
+    requires shape { shape ≡ view.shape_of text.now }
+    ensures value { leaf_of text.now result ≡ view.shaped cut text.now shape }
+    ensures whole { result ≡ Atom.Symbol → view.shaped false text.now shape ≡ spec.Named (map to_ascii_uppercase text.now) }
     ensures near { IsNear (length text.now) result }
 {
     match shape {
-        Shape::NoNumber => symbol(text, cut),
+        Shape::NoNumber => word(text, cut),
         _ if cut => Atom::Wrong(Code::BookTooLong, text.len()),
         Shape::Whole => integer(text),
-        Shape::Ratio | Shape::Pointed | Shape::Part | Shape::Power => Atom::Wrong(
-            Code::BadNumber,
-            0,
-        ),
-        _ => symbol(text, false),
+        Shape::Ratio | Shape::Pointed | Shape::Part | Shape::Power => {
+            Atom::Wrong(Code::BadNumber, 0)
+        }
+        _ => word(text, false),
+    }
+}
+
+/// An atom of points only.
+fn points(text: &str, cut: bool) -> Atom
+    ensures value { leaf_of text.now result ≡ spec.points cut text.now }
+    ensures near { IsNear (length text.now) result }
+    ensures form { result ≡ Atom.Symbol → ⊥ }
+{
+    if cut {
+        Atom::Wrong(Code::BookTooLong, text.len())
+    } else if text.len() == 1 {
+        Atom::Point
+    } else {
+        Atom::Wrong(Code::BadDot, 0)
+    }
+}
+
+/// An odd atom. A number sign alone, behind which the book goes on, may yet begin a comment.
+fn odd(text: &str, cut: bool) -> Atom
+    requires { 0 < length text.now }
+    ensures value { leaf_of text.now result ≡ spec.odd cut text.now }
+    ensures near { IsNear (length text.now) result }
+    ensures form { result ≡ Atom.Symbol → ⊥ }
+{
+    if cut && text.len() == 1 {
+        Atom::Wrong(Code::BookTooLong, 1)
+    } else {
+        Atom::Wrong(Code::BadByte, 0)
     }
 }
 
@@ -207,25 +241,11 @@ impl Atom {
     {
         let bytes = text.as_bytes();
         if is_odd(bytes) {
-            if cut && bytes.len() == 1 {
-                return Atom::Wrong(Code::BookTooLong, 1);
-            }
-            return Atom::Wrong(Code::BadByte, 0);
-        }
-        if is_all_points(bytes) {
-            if cut {
-                return Atom::Wrong(Code::BookTooLong, bytes.len());
-            }
-            return if bytes.len() == 1 {
-                Atom::Point
-            } else {
-                Atom::Wrong(Code::BadDot, 0)
-            };
-        }
-        match late_colon(bytes) {
-            Some(place) if place < 255 => Atom::Wrong(Code::BadByte, place + 1),
-            Some(_) => Atom::Wrong(Code::SymbolTooLong, 255),
-            None => shaped(text, cut, Shape::of(bytes)),
+            odd(text, cut)
+        } else if is_all_points(bytes) {
+            points(text, cut)
+        } else {
+            shaped(text, cut, Shape::of(bytes))
         }
     }
 }

@@ -5,6 +5,7 @@ mod atom;
 mod code;
 mod detail;
 mod form;
+mod laws;
 mod symbol;
 #[cfg(test)]
 mod tests;
@@ -14,6 +15,7 @@ pub use atom::{Atom, in_atom};
 pub use code::Code;
 pub use detail::Detail;
 pub use form::{Form, Forms};
+pub use laws::numbers_begin;
 pub use lists::{Bytes, Memory, Seq, Share, Text};
 pub use symbol::{Symbol, SymbolError};
 pub use value::{MAX_PAIRS, MAX_PATH, PairNode, Value, ValueError};

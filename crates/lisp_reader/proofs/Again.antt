@@ -3,12 +3,12 @@ use Rattle.std.proofs.Common.{◌≡◌, ℕ, zero, suc, ◌+◌, ◌-◌, ◌<�
 use Rattle.std.specs.Prelude.{ℤ, codes, bytes_eq}
 use Rattle.std.proofs.lemmas.Bool.Decides.{nat_tests}
 use Rattle.std.proofs.lemmas.List.{take_at, drop_at, append-nil, drop_all}
-use Rattle.std.specs.List.{list_all, position}
+use Rattle.std.specs.List.{list_all}
 use Rattle.std.specs.Cmp.Lexicographic.{bytes_decides}
 use Rattle.std.specs.Fmt.{signed_decimal}
 use Rattle.lisp_data.specs.Datum.{Datum, IntForm, SymForm, TextForm, PairForm, nil_form}
-use Rattle.lisp_data.specs.Atoms as atoms
 use Rattle.lisp_data.specs.Atoms.{Leaf, Integer, Named, Point, Wrong, in_atom, is_delimiter, is_odd, leaf}
+use Rattle.lisp_data.proofs.AtomSteps.{odd-leaf}
 use Rattle.lisp_data.specs.SymbolText.{IsSymbolText}
 use Rattle.lisp_reader.specs.Spans as s
 use Rattle.lisp_reader.specs.Spans.{Front, Nothing, Gap, EndlessGap, Open, Close, Quote, Text, EndlessText, Atom, Stray, run, later, string, unescaped, escapes, is_blank, opens, opens_block, front, begins, is_gap, gaps_from, gaps, behind}
@@ -104,12 +104,6 @@ not-sharp : (b : ℕ) (t : List ℕ) (c : Bool) → nat_eq b 35 ≡ c → (is_od
 not-sharp b t false e n = e
 not-sharp b [] true e n = absurd (n (ap (λ x. x || nat_eq b 58) e))
 not-sharp b (c ∷ t) true e n = absurd (n e)
-
--- an odd atom is neither an integer nor a symbol
-odd-leaf : (r : List ℕ) → is_odd r ≡ true → leaf false r ≡ Wrong BadByte 0
-unfolding leaf
-odd-leaf r h =
-    ap (λ c. cond c (Wrong BadByte 0) (cond (list_all (λ b. nat_eq b 46) r) (cond (nat_eq (length r) 1) Point (Wrong BadDot 0)) (atoms.worded false r (position (λ b. nat_eq b 58) (drop 1 r))))) h
 
 empty-leaf : leaf false [] ≡ Wrong BadDot 0
 unfolding leaf

@@ -1,14 +1,15 @@
 -- The decimal text of an integer is that integer, as an atom.
-use Rattle.std.proofs.Common.{◌≡◌, ℕ, suc, ◌+◌, ◌<◌, ◌^◌, Bool, true, false, cond, not, ◌&&◌, ◌||◌, nat_eq, nat_lt, Some, None, List, [], ◌∷◌, length, drop, refl, ap, ◌∙◌, arith, ltb-true}
+use Rattle.std.proofs.Common.{◌≡◌, ℕ, suc, ◌+◌, ◌<◌, ◌^◌, Bool, true, false, cond, ◌&&◌, ◌||◌, nat_eq, nat_lt, List, [], ◌∷◌, drop, refl, ap, ◌∙◌, arith, ltb-true}
 use Rattle.std.specs.Prelude.{ℤ, pos, negsuc, neg_ℤ}
 use Rattle.std.proofs.lemmas.Bool.Decides.{nat_tests}
 use Rattle.std.proofs.lemmas.Fmt.{decimal_is_IsNumeral_wide}
-use Rattle.std.specs.List.{fold, list_all, position, prefix_len}
+use Rattle.std.specs.List.{list_all}
 use Rattle.std.specs.Char.{is_ascii_digit, digit_value}
 use Rattle.std.specs.Fmt.{decimal, signed_decimal}
 use Rattle.std.specs.Str.Parse.{AllDigits, IsNumeral, digits_value, signed_digits_value, without_leading_sign}
-use Rattle.lisp_data.specs.Atoms.{in_atom, is_delimiter, is_sign, is_narrow, Start, Sign, Whole, Integer, Point, Wrong, grown, after_other, shape_of, integer, shaped, worded, is_odd, leaf}
-use Rattle.lisp_data.specs.declared.code.Code.TheVariants.{BadByte, BadDot, IntegerTooWide}
+use Rattle.lisp_data.specs.Atoms.{in_atom, is_delimiter, is_narrow, Integer, is_odd, leaf}
+use Rattle.lisp_data.specs.Numbers.{is_sign, behind, optional, sign, digits}
+use Rattle.lisp_data.proofs.AtomSteps.{integer-leaf}
 
 digit-range : (b : ℕ) → digit_value b < 10 → is_ascii_digit b ≡ true
 digit-range b h = grind (arith, nat_tests)
@@ -30,29 +31,16 @@ digits-all (b ∷ ds) h = λ i. both (in_atom b) (list_all in_atom ds) (digit-at
     both : (a c : Bool) → a ≡ true → c ≡ true → (a && c) ≡ true
     both a c p q = λ i. p i && q i
 
-digits-shape : (ds : List ℕ) → AllDigits 10 ds → fold grown Whole ds ≡ Whole
-digits-shape [] h = refl
-digits-shape (b ∷ ds) h = ap (λ c. fold grown (cond c Whole (after_other Whole b)) ds) (digit-range b h.0) ∙ digits-shape ds h.1
+digits-list : (ds : List ℕ) → AllDigits 10 ds → list_all is_ascii_digit ds ≡ true
+digits-list [] h = refl
+digits-list (b ∷ ds) h = λ i. digit-range b h.0 i && digits-list ds h.1 i
 
-digits-colon : (ds : List ℕ) → AllDigits 10 ds → prefix_len (λ b. not (nat_eq b 58)) ds ≡ length ds
-digits-colon [] h = refl
-digits-colon (b ∷ ds) h =
-    let next : 1 + length ds ≡ suc (length ds) = omega arith in
-    ap (λ c. cond (not c) (1 + prefix_len (λ b. not (nat_eq b 58)) ds) 0) (digit-colon b h.0) ∙ ap (λ n. 1 + n) (digits-colon ds h.1) ∙ next
+or-true : (a b : Bool) → b ≡ true → (a || b) ≡ true
+or-true true b h = refl
+or-true false b h = h
 
-no_colon : (ds : List ℕ) → AllDigits 10 ds → position (λ b. nat_eq b 58) ds ≡ None
-no_colon ds h =
-    let same : nat_lt (length ds) (length ds) ≡ false = grind (arith, nat_tests) in
-    ap (λ n. cond (nat_lt n (length ds)) (Some n) None) (digits-colon ds h) ∙ ap (λ c. cond c (Some (length ds)) None) same
-
--- what the cases of an atom come to, where it is no odd atom, no points, and has no late colon
-whole-leaf : (r : List ℕ) (z : ℤ) → is_odd r ≡ false → list_all (λ b. nat_eq b 46) r ≡ false → position (λ b. nat_eq b 58) (drop 1 r) ≡ None → shape_of r ≡ Whole →
-    signed_digits_value 10 r ≡ z → is_narrow z ≡ true → leaf false r ≡ Integer z
-unfolding leaf
-whole-leaf r z odd points colon shape value narrow =
-    ap (λ c. cond c (Wrong BadByte 0) (cond (list_all (λ b. nat_eq b 46) r) (cond (nat_eq (length r) 1) Point (Wrong BadDot 0)) (worded false r (position (λ b. nat_eq b 58) (drop 1 r))))) odd
-    ∙ ap (λ c. cond c (cond (nat_eq (length r) 1) Point (Wrong BadDot 0)) (worded false r (position (λ b. nat_eq b 58) (drop 1 r)))) points
-    ∙ ap (worded false r) colon ∙ ap (shaped false r) shape ∙ ap integer value ∙ ap (λ c. cond c (Integer z) (Wrong IntegerTooWide 0)) narrow
+or-left : (a b : Bool) → a ≡ true → (a || b) ≡ true
+or-left a b h = ap (λ c. c || b) h
 
 odd-first : (b : ℕ) (t : List ℕ) → nat_eq b 35 ≡ false → nat_eq b 58 ≡ false → is_odd (b ∷ t) ≡ false
 odd-first b [] h k = λ i. h i || k i
@@ -67,19 +55,17 @@ digits-leaf (b ∷ ds) n h v narrow =
     let same : without_leading_sign (b ∷ ds) ≡ b ∷ ds = ap (λ c. cond c ds (drop (cond (nat_eq b 43) 1 0) (b ∷ ds))) minus ∙ ap (λ c. drop (cond c 1 0) (b ∷ ds)) plus in
     let value : ℤ = pos (digits_value 10 (without_leading_sign (b ∷ ds))) in
     let unsigned : signed_digits_value 10 (b ∷ ds) ≡ pos (digits_value 10 (b ∷ ds)) = ap (λ c. cond c (neg_ℤ value) value) minus ∙ ap (λ t. pos (digits_value 10 t)) same in
-    whole-leaf (b ∷ ds) (pos n) (odd-first b ds (digit-apart b 35 digit (omega arith)) (digit-colon b digit))
+    integer-leaf (b ∷ ds) (pos n) (odd-first b ds (digit-apart b 35 digit (omega arith)) (digit-colon b digit))
     (ap (λ c. c && list_all (λ b. nat_eq b 46) ds) (digit-apart b 46 digit (omega arith)))
-    (no_colon ds h.1.1)
-    (ap (λ c. fold grown (cond c Whole (after_other Start b)) ds) (digit-range b digit) ∙ digits-shape ds h.1.1)
+    (or-true (behind (λ x. optional sign (b ∷ x)) digits ds) (digits (b ∷ ds)) (digits-list (b ∷ ds) h.1))
     (unsigned ∙ ap pos v) narrow
 
 minus-leaf : (ds : List ℕ) (n : ℕ) → IsNumeral 10 ds → digits_value 10 ds ≡ suc n → is_narrow (negsuc n) ≡ true → leaf false (45 ∷ ds) ≡ Integer (negsuc n)
 unfolding is_sign
 minus-leaf [] n h v narrow = absurd (omega arith)
 minus-leaf (b ∷ ds) n h v narrow =
-    whole-leaf (45 ∷ b ∷ ds) (negsuc n) refl refl
-    (no_colon (b ∷ ds) h.1)
-    (ap (λ c. fold grown (cond c Whole (after_other Sign b)) ds) (digit-range b h.1.0) ∙ digits-shape ds h.1.1)
+    integer-leaf (45 ∷ b ∷ ds) (negsuc n) refl refl
+    (or-left _ _ (or-true (behind (λ x. optional sign (45 ∷ b ∷ x)) digits ds) (digits (b ∷ ds)) (digits-list (b ∷ ds) h.1)))
     (ap (λ m. neg_ℤ (pos m)) v) narrow
 
 narrow-wide : (n : ℕ) → nat_lt n (2 ^ 127) ≡ true → n + 1 < 10 ^ 64

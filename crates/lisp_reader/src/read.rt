@@ -6,7 +6,7 @@ ghost use Rattle.std.specs.Char.{to_ascii_uppercase};
 ghost use Rattle.lisp_data.specs.Datum.{IntForm, SymForm, TextForm, nil_form, chain};
 ghost use Rattle.lisp_data.specs.FormView.{form_of, forms_of, IsProper, AreProper};
 ghost use Rattle.lisp_data.specs.Atoms as atoms;
-ghost use Rattle.lisp_data.specs.AtomView.{leaf_of, IsNear};
+ghost use Rattle.lisp_data.specs.view.AtomView.{leaf_of, IsNear};
 ghost use Rattle.lisp_data.specs.SymbolText.{NamesSymbol};
 ghost use Rattle.lisp_reader.specs.Says.{is_point, SaysRead, SaysPlace};
 ghost use Rattle.lisp_reader.specs.Spans as spans;

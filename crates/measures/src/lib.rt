@@ -13,3 +13,6 @@ pub use calls::{RecursiveCall, RecursiveCalls, recursive_calls};
 pub use defaults::default_measure;
 pub use errors::MeasureError;
 pub use owed::{Sequents, obligations};
+
+#[cfg(test)]
+mod tests;

@@ -1,6 +1,9 @@
 //! What a recursive definition owes.
 
 ghost use Rattle.std.specs.Prelude.{◌≡◌, ◌∷◌, map, length, All, IfOk};
+ghost use Rattle.std.specs.List.{list_any};
+ghost use Rattle.terms.specs.Terms.{same_tm};
+ghost use Rattle.terms.specs.Joins.{without_repeats};
 ghost use Rattle.terms.specs.Worlds.{Distinct};
 ghost use Rattle.terms.specs.Measures as spec;
 ghost use Rattle.measures.specs.Calls.{call_of, CallsTake};
@@ -28,6 +31,25 @@ fn is_natural(alloc: Global, measure: &Term) -> Result<Sequent, Memory>
     })
 }
 
+fn has(terms: &[Term], term: &Term) -> bool
+    ensures { result ≡ list_any (same_tm term.now) terms.now }
+{
+    terms.iter().any(|other| term.same(other))
+}
+
+/// The terms, each once, at its first place.
+fn without_repeats(alloc: Global, terms: &Terms) -> Result<Terms, Memory>
+    ensures { IfOk result (λ ts. ts ≡ without_repeats terms.now) }
+{
+    let mut once = Terms::new(alloc);
+    for term in terms.as_slice() {
+        if !has(once.as_slice(), term) {
+            once.push(term.share()?)?;
+        }
+    }
+    Ok(once)
+}
+
 /// That the measure is less at a call's arguments, where its tests are true.
 fn falls(
     alloc: Global,
@@ -44,7 +66,7 @@ fn falls(
     let goal = less(alloc, then, measure.share()?)?;
     Ok(Sequent {
         universals: Terms::new(alloc),
-        hyps: call.tests.copy(alloc)?,
+        hyps: without_repeats(alloc, &call.tests)?,
         goal,
     })
 }

@@ -8,14 +8,14 @@ use Rattle.term_forms.specs.declared.translation.TermError.{TermError}
 use Rattle.term_forms.specs.declared.translation.TermError.TheVariants.{Refused, Memory}
 use Rattle.terms.specs.Terms.{Tm, Call, Tms, More, tms, nodes, substitute, substitute_all}
 use Rattle.terms.specs.Measures.{call1, call2}
-use Rattle.term_forms.specs.Translation.{Outcome, and_rest, height, limited, is_limited, too_large}
+use Rattle.term_forms.specs.Translation.{Outcome, and_rest, levels, limited, is_limited, too_large}
 use Rattle.term_forms.specs.TranslationView.{SaysOutcome}
 use Rattle.term_forms.specs.Outcomes.{each}
 
 -- one term is no larger than another
 pub record IsWithin (t u : Tm) : Type 0 where
   pub few : nodes t ≤ nodes u
-  pub low : height t ≤ height u
+  pub low : levels t ≤ levels u
 
 by_choice : (b : Bool) (t : Tm) (e : Code × Detail) → (if b then Ok t else too_large {A = Tm}) ≡ Err e → (b ≡ false) × (too_large {A = Tm} ≡ Err e)
 by_choice true t e h = cc
@@ -35,7 +35,7 @@ tests-grow a b c d p q h = grind (arith, nat_tests)
 pub larger-refused : (t u : Tm) (e : Code × Detail) → IsWithin t u → limited t ≡ Err e → limited u ≡ Err e
 larger-refused t u e w h =
     let small = by_choice (is_limited t) t e h in
-    let large : is_limited u ≡ false = tests-grow (nodes t) (height t) (nodes u) (height u) w.few w.low small.0 in
+    let large : is_limited u ≡ false = tests-grow (nodes t) (levels t) (nodes u) (levels u) w.few w.low small.0 in
     ap (λ b. if b then Ok u else too_large {A = Tm}) large ∙ small.1
 
 first-within : (f : Name) (t : Tm) (ts : Tms) → IsWithin t (Call f (More t ts))

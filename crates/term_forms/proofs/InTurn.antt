@@ -5,7 +5,7 @@ use Rattle.term_forms.specs.declared.translation.TermError.{TermError}
 use Rattle.term_forms.specs.declared.translation.TermError.TheVariants.{Refused, Memory}
 use Rattle.terms.specs.Terms.{Tm, Var, Quote, Call, Tms, Done, More, nodes, nodes_in, substitute, substitute_all}
 use Rattle.terms.specs.Substitution.{Pairs, by_pairs}
-use Rattle.term_forms.specs.Translation.{height, heights, limited}
+use Rattle.term_forms.specs.Translation.{levels, levels_in, limited}
 use Rattle.term_forms.specs.TranslationView.{SaysOutcome}
 use Rattle.term_forms.specs.Words.{folded}
 use Rattle.term_forms.specs.Bindings.{replaced_by}
@@ -29,17 +29,17 @@ mutual
   nodes_in-grow s (More t ts) = omega (arith, nodes-grow s t, nodes_in-grow s ts)
 
 mutual
-  height-grows : (s : Name → Tm) (t : Tm) → height t ≤ height (substitute s t)
-  height-grows s (Var x) = omega arith
-  height-grows s (Quote v) = omega arith
-  height-grows s (Call f ts) = omega (arith, heights-grow s ts)
+  levels-grow : (s : Name → Tm) (t : Tm) → levels t ≤ levels (substitute s t)
+  levels-grow s (Var x) = omega arith
+  levels-grow s (Quote v) = omega arith
+  levels-grow s (Call f ts) = omega (arith, levels_in-grow s ts)
 
-  heights-grow : (s : Name → Tm) (ts : Tms) → heights ts ≤ heights (substitute_all s ts)
-  heights-grow s Done = omega arith
-  heights-grow s (More t ts) = omega (arith, height-grows s t, heights-grow s ts)
+  levels_in-grow : (s : Name → Tm) (ts : Tms) → levels_in ts ≤ levels_in (substitute_all s ts)
+  levels_in-grow s Done = omega arith
+  levels_in-grow s (More t ts) = omega (arith, levels-grow s t, levels_in-grow s ts)
 
 replaced-grows : IsGrowing replaced_by
-replaced-grows p t = record { few = nodes-grow (by_pairs (p ∷ [])) t; low = height-grows (by_pairs (p ∷ [])) t }
+replaced-grows p t = record { few = nodes-grow (by_pairs (p ∷ [])) t; low = levels-grow (by_pairs (p ∷ [])) t }
 
 one-at : (ps : Pairs) (i : ℕ) (d : Name × Tm) → i < length ps → take 1 (drop i ps) ≡ get_or ps i d ∷ []
 one-at [] i d h = absurd (omega arith)

@@ -8,7 +8,7 @@ use Rattle.lisp_reader.specs.Printed.{datum_of}
 use Rattle.terms.specs.Terms.{Tm, Var, Quote, Call, Tms, Done, More, tms, tm_list, count, nodes, nodes_in, Over, OverAll}
 use Rattle.term_forms.specs.Names.{is_constant_name, is_variable_name, begins_with, ends_with}
 use Rattle.term_forms.specs.Macros.{macro}
-use Rattle.term_forms.specs.Translation.{Takes, Scope, and_then, map_outcome, height, heights, is_limited, limited, atom, is_small, too_large, is_list, items, call_head, word_head, head, applied, and_rest, translate, by_word, terms}
+use Rattle.term_forms.specs.Translation.{Takes, Scope, and_then, map_outcome, levels, levels_in, is_limited, limited, atom, is_small, too_large, is_list, items, call_head, word_head, head, applied, and_rest, translate, by_word, terms}
 use Rattle.term_forms.specs.Printing.{form_of_term, form_of_arguments}
 use Rattle.term_forms.specs.TranslationLaws.{Quotes, QuotesAll, is_word, WordsApart, TermsAreTranslated}
 
@@ -73,15 +73,15 @@ tms-tm_list (More t ts) = ap (More t) (tms-tm_list ts)
 -- the limits, for parts
 record Within (n h : ℕ) : Type 0 where
   nodes_fit : n ≤ 100000
-  height_fits : h ≤ 1000
+  levels_fits : h ≤ 1000
 
-within : (t : Tm) → is_limited t ≡ true → Within (nodes t) (height t)
+within : (t : Tm) → is_limited t ≡ true → Within (nodes t) (levels t)
 within t e =
-    let p = and_parts (nat_le (nodes t) 100000) (nat_le (height t) 1000) e in
-    record { nodes_fit = leb-true (nodes t) 100000 p.0; height_fits = leb-true (height t) 1000 p.1 }
+    let p = and_parts (nat_le (nodes t) 100000) (nat_le (levels t) 1000) e in
+    record { nodes_fit = leb-true (nodes t) 100000 p.0; levels_fits = leb-true (levels t) 1000 p.1 }
 
-is_within : (t : Tm) → Within (nodes t) (height t) → is_limited t ≡ true
-is_within t w = ap (λ b. b && nat_le (height t) 1000) (le-leb (nodes t) 100000 w.nodes_fit) ∙ le-leb (height t) 1000 w.height_fits
+is_within : (t : Tm) → Within (nodes t) (levels t) → is_limited t ≡ true
+is_within t w = ap (λ b. b && nat_le (levels t) 1000) (le-leb (nodes t) 100000 w.nodes_fit) ∙ le-leb (levels t) 1000 w.levels_fits
 
 call-head : (takes : Takes) (f : Name) (d : Datum) (n : ℕ) → IsCalled f → is_list d ≡ true → items d ≡ n → takes f ≡ Some n → head takes f d ≡ Ok tt
 call-head takes f d n c l i k =
@@ -118,31 +118,31 @@ module _ (takes : Takes) (apart : WordsApart takes) (scope : Scope) where
   of_quote v s = ap (λ o. and_then o limited) (if_no (has_text (datum_of v)) _ _ (plain v) ∙ ap (λ w. if is_small w then Ok (Quote w) else too_large) (value-datum v) ∙ if_yes (is_small v) _ _ s)
 
   mutual
-    of_term : (t : Tm) → Fits t → Named t → Quotes Small t → Within (nodes t) (height t) → translate takes scope (form_of_term t) ≡ Ok t
+    of_term : (t : Tm) → Fits t → Named t → Quotes Small t → Within (nodes t) (levels t) → translate takes scope (form_of_term t) ≡ Ok t
     of_term (Var x) f v s w = of_variable x v f
     of_term (Quote v) f n s w = of_quote v s
     of_term (Call g ts) f v s w =
         let c = called g (count ts) f.0 in
         ap (λ o. and_then o (λ _. and_then (by_word takes scope g (form_of_arguments ts)) limited)) (call-head takes g (form_of_arguments ts) (count ts) c (list-arguments ts) (items-arguments ts) f.0)
-        ∙ ap (λ o. and_then o limited) (of_call g c ts f.1 v.1 s (record { nodes_fit = omega (arith, w.nodes_fit); height_fits = omega (arith, w.height_fits) }))
+        ∙ ap (λ o. and_then o limited) (of_call g c ts f.1 v.1 s (record { nodes_fit = omega (arith, w.nodes_fit); levels_fits = omega (arith, w.levels_fits) }))
         ∙ if_yes (is_limited (Call g ts)) _ _ (is_within (Call g ts) w)
 
-    of_call : (g : Name) → IsCalled g → (ts : Tms) → OverAll (λ x. scope x ≡ true) (λ f k. takes f ≡ Some k) ts → OverAll (λ x. is_variable_name x ≡ true) (λ f k. Unit {0}) ts → QuotesAll Small ts → Within (nodes_in ts) (heights ts) →
+    of_call : (g : Name) → IsCalled g → (ts : Tms) → OverAll (λ x. scope x ≡ true) (λ f k. takes f ≡ Some k) ts → OverAll (λ x. is_variable_name x ≡ true) (λ f k. Unit {0}) ts → QuotesAll Small ts → Within (nodes_in ts) (levels_in ts) →
         by_word takes scope g (form_of_arguments ts) ≡ Ok (Call g ts)
     of_call g c Done f v s w = ap Ok (if_no (bytes_eq g (codes "COND")) _ _ c.choose ∙ ap (λ m. applied g m nil_form []) c.stands)
     of_call g c (More t ts) f v s w =
         if_no (bytes_eq g (codes "QUOTE")) _ _ c.quote ∙ if_no (bytes_eq g (codes "LET")) _ _ c.bind ∙ if_no (bytes_eq g (codes "LET*")) _ _ c.bind_in_turn ∙ if_no (bytes_eq g (codes "COND")) _ _ c.choose
-        ∙ ap (λ o. map_outcome (applied g (macro g) (form_of_arguments (More t ts))) (and_rest o (terms takes scope (form_of_arguments ts)))) (of_term t f.0 v.0 s.0 (record { nodes_fit = omega (arith, w.nodes_fit); height_fits = omega (arith, w.height_fits) }))
-        ∙ ap (λ o. map_outcome (applied g (macro g) (form_of_arguments (More t ts))) (map_outcome (λ us. t ∷ us) o)) (of_terms ts f.1 v.1 s.1 (record { nodes_fit = omega (arith, w.nodes_fit); height_fits = omega (arith, w.height_fits) }))
+        ∙ ap (λ o. map_outcome (applied g (macro g) (form_of_arguments (More t ts))) (and_rest o (terms takes scope (form_of_arguments ts)))) (of_term t f.0 v.0 s.0 (record { nodes_fit = omega (arith, w.nodes_fit); levels_fits = omega (arith, w.levels_fits) }))
+        ∙ ap (λ o. map_outcome (applied g (macro g) (form_of_arguments (More t ts))) (map_outcome (λ us. t ∷ us) o)) (of_terms ts f.1 v.1 s.1 (record { nodes_fit = omega (arith, w.nodes_fit); levels_fits = omega (arith, w.levels_fits) }))
         ∙ ap (λ m. Ok (applied g m (form_of_arguments (More t ts)) (t ∷ tm_list ts))) c.stands
         ∙ ap (λ us. Ok (Call g (More t us))) (tms-tm_list ts)
 
-    of_terms : (ts : Tms) → OverAll (λ x. scope x ≡ true) (λ f k. takes f ≡ Some k) ts → OverAll (λ x. is_variable_name x ≡ true) (λ f k. Unit {0}) ts → QuotesAll Small ts → Within (nodes_in ts) (heights ts) →
+    of_terms : (ts : Tms) → OverAll (λ x. scope x ≡ true) (λ f k. takes f ≡ Some k) ts → OverAll (λ x. is_variable_name x ≡ true) (λ f k. Unit {0}) ts → QuotesAll Small ts → Within (nodes_in ts) (levels_in ts) →
         terms takes scope (form_of_arguments ts) ≡ Ok (tm_list ts)
     of_terms Done f v s w = refl
     of_terms (More t ts) f v s w =
-        ap (λ o. and_rest o (terms takes scope (form_of_arguments ts))) (of_term t f.0 v.0 s.0 (record { nodes_fit = omega (arith, w.nodes_fit); height_fits = omega (arith, w.height_fits) }))
-        ∙ ap (map_outcome (λ us. t ∷ us)) (of_terms ts f.1 v.1 s.1 (record { nodes_fit = omega (arith, w.nodes_fit); height_fits = omega (arith, w.height_fits) }))
+        ap (λ o. and_rest o (terms takes scope (form_of_arguments ts))) (of_term t f.0 v.0 s.0 (record { nodes_fit = omega (arith, w.nodes_fit); levels_fits = omega (arith, w.levels_fits) }))
+        ∙ ap (map_outcome (λ us. t ∷ us)) (of_terms ts f.1 v.1 s.1 (record { nodes_fit = omega (arith, w.nodes_fit); levels_fits = omega (arith, w.levels_fits) }))
 
 pub terms_are_translated : TermsAreTranslated
 terms_are_translated takes apart scope t o = of_term takes apart scope t o.fits o.variables o.values (within t o.limits)

@@ -1,12 +1,12 @@
 -- What a counted term is seen as.
 use Rattle.std.specs.Prelude.{◌≡◌, ◌≤◌}
 use Rattle.terms.specs.Terms.{nodes}
-use Rattle.term_forms.specs.Translation.{height}
+use Rattle.term_forms.specs.Translation.{levels}
 use Rattle.term_forms.specs.declared.counted.Counted.TheInside.{Inside}
 
 -- the two numbers are the term's own, and keep the limits
 pub record IsCounted (a : Inside) : Type 0 where
   pub nodes_are : a.nodes ≡ nodes a.term
-  pub height_is : a.height ≡ height a.term
+  pub levels_is : a.levels ≡ levels a.term
   pub few : a.nodes ≤ 100000
-  pub low : a.height ≤ 1000
+  pub low : a.levels ≤ 1000

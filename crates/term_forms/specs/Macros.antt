@@ -80,6 +80,9 @@ abbrev pub less_by : Tm → Tm → Option ℤ → Tm
 less_by a b (Some k) = plus (number k) a
 less_by a b None = plus a (minus b)
 
+-- The terms of words of so many parts. The parts are counted before a term is made of them, so that the last clause of each of the next three,
+-- which makes `'nil` of too few, never comes to be.
+
 -- `(- a)`, and `(- a b)`, where the second part is a literal or another form
 abbrev pub difference : Datum → List Tm → Tm
 difference (PairForm a (PairForm b d)) (t ∷ u ∷ ts) = less_by t u (negated b)

@@ -42,20 +42,20 @@ bad_form = Err (BadForm, detail.Word (codes "term"))
 abbrev pub too_large : {A : Type 0} → Outcome A
 too_large = Err (TermTooLarge, detail.Absent)
 
--- calls are counted on the longest way down; one without arguments counts as well
+-- how many calls lie within one another on the longest way down; one without arguments counts as well
 abbrev mutual
-  pub height : Tm → ℕ
-  height (Var x) = 0
-  height (Quote v) = 0
-  height (Call f ts) = suc (heights ts)
+  pub levels : Tm → ℕ
+  levels (Var x) = 0
+  levels (Quote v) = 0
+  levels (Call f ts) = suc (levels_in ts)
 
-  pub heights : Tms → ℕ
-  heights Done = 0
-  heights (More t ts) = max (height t) (heights ts)
+  pub levels_in : Tms → ℕ
+  levels_in Done = 0
+  levels_in (More t ts) = max (levels t) (levels_in ts)
 
 -- the limits of a translated term
 abbrev pub is_limited : Tm → Bool
-is_limited t = nat_le (nodes t) 100000 && nat_le (height t) 1000
+is_limited t = nat_le (nodes t) 100000 && nat_le (levels t) 1000
 
 abbrev pub limited : Tm → Outcome Tm
 limited t = if is_limited t then Ok t else too_large
@@ -162,6 +162,8 @@ let_of scope names bound body =
     and_then names (λ xs. and_then (distinct_after [] xs) (λ _. and_then bound (λ ts.
     map_outcome (substitute (by_pairs (zip xs ts))) (body (with_names xs scope)))))
 
+-- What follows reads the parts of a list whose head and number of parts `head` has looked at, and bindings that `bound_names` has read: the
+-- last clause of each of `terms`, `clauses`, `bound_terms` and `in_turn` is for the end of a list, and no other form comes to it.
 abbrev mutual
   -- a list by its head comes after the head's own faults, and its size last
   pub translate : Takes → Scope → Datum → Outcome Tm
@@ -181,6 +183,7 @@ abbrev mutual
       else if bytes_eq f (codes "LET*") then and_then (bound_names a) (λ _. in_turn takes scope a (λ inner. body takes inner d))
       else if bytes_eq f (codes "COND") then map_outcome chosen (and_rest (clause takes scope a) (clauses takes scope d))
       else map_outcome (applied f (macro f) (PairForm a d)) (and_rest (translate takes scope a) (terms takes scope d))
+  -- without parts: `(cond)`, or a word or call that takes none
   by_word takes scope f d = Ok (if bytes_eq f (codes "COND") then nil_term else applied f (macro f) d [])
 
   -- the terms of the parts
@@ -213,7 +216,7 @@ abbrev mutual
       map_outcome (substitute (by_pairs ((x, t) ∷ []))) (in_turn takes (with_names (x ∷ []) scope) d last))
   in_turn takes scope _ last = last scope
 
-  -- the part behind the bindings
+  -- the part behind the bindings, which `head` has counted
   pub body : Takes → Scope → Datum → Outcome Tm
   body takes scope (PairForm b e) = translate takes scope b
   body takes scope _ = bad_form

@@ -15,14 +15,14 @@ use terms::{Term, Terms};
 /// The most variables, quoted values and calls of a term.
 const MAX_NODES: u64 = 100_000;
 
-/// The most calls on a way down.
-const MAX_HEIGHT: u64 = 1_000;
+/// The most calls that lie within one another.
+const MAX_LEVELS: u64 = 1_000;
 
-/// A term within the limits, with its nodes and its height. Contracts see the term.
+/// A term within the limits, with its nodes and its levels of calls. Contracts see the term.
 pub(crate) struct Counted {
     term: Term,
     nodes: u64,
-    height: u64,
+    levels: u64,
 }
 
 impl Drop for Counted {
@@ -30,7 +30,7 @@ impl Drop for Counted {
         let Counted {
             term: _,
             nodes: _,
-            height: _,
+            levels: _,
         } = self;
     }
 }
@@ -57,7 +57,7 @@ impl Counted {
         Ok(Counted {
             term,
             nodes: 1,
-            height: 0,
+            levels: 0,
         })
     }
 
@@ -68,7 +68,7 @@ impl Counted {
         Ok(Counted {
             term,
             nodes: 1,
-            height: 0,
+            levels: 0,
         })
     }
 
@@ -79,13 +79,13 @@ impl Counted {
     {
         let mut args = Terms::new(alloc);
         let mut nodes: u64 = 1;
-        let mut height: u64 = 0;
+        let mut levels: u64 = 0;
         for part in parts {
             args.push(part.term.share()?)?;
             nodes = nodes.saturating_add(part.nodes);
-            height = height.max(part.height);
+            levels = levels.max(part.levels);
         }
-        if nodes > MAX_NODES || height >= MAX_HEIGHT {
+        if nodes > MAX_NODES || levels >= MAX_LEVELS {
             return Err(TermError::Refused {
                 code: Code::TermTooLarge,
                 detail: Detail::Absent,
@@ -95,7 +95,7 @@ impl Counted {
         Ok(Counted {
             term,
             nodes,
-            height: height + 1,
+            levels: levels + 1,
         })
     }
 
@@ -112,7 +112,7 @@ impl Counted {
         Ok(Counted {
             term: self.term.share()?,
             nodes: self.nodes,
-            height: self.height,
+            levels: self.levels,
         })
     }
 

@@ -5,7 +5,9 @@ use Rattle.lisp_data.specs.Datum.{Datum}
 use Rattle.terms.specs.declared.definition.Definition.{Definition}
 use Rattle.terms.specs.declared.sequent.Sequent.{Sequent}
 use Rattle.terms.specs.declared.entries.Specification.{Specification}
-use Rattle.terms.specs.Worlds.{World}
+use Rattle.terms.specs.declared.entries.Iso.{Iso}
+use Rattle.terms.specs.declared.entries.Link.{Link}
+use Rattle.terms.specs.Worlds.{World, Instance}
 use Rattle.terms.specs.Later.{IsGrown, IsContinued, IsLater}
 use Rattle.terms.specs.Sound.{add_definition, add_variable, add_theorem, add_specification, add_event}
 
@@ -97,4 +99,40 @@ module _ (W V : World) (later : IsLater W V) where
     instances = later.instances;
     links = later.links;
     events = grown e later.events;
+  }
+
+  pub later_iso : (i : Iso) → IsLater W (record V { isos = i ∷ V.isos })
+  later_iso i = record {
+    definitions = later.definitions;
+    variables = later.variables;
+    theorems = later.theorems;
+    specifications = later.specifications;
+    isos = grown i later.isos;
+    instances = later.instances;
+    links = later.links;
+    events = later.events;
+  }
+
+  pub later_instance : (i : Instance) → IsLater W (record V { instances = V.instances ++ i ∷ [] })
+  later_instance i = record {
+    definitions = later.definitions;
+    variables = later.variables;
+    theorems = later.theorems;
+    specifications = later.specifications;
+    isos = later.isos;
+    instances = continued W.instances V.instances i later.instances;
+    links = later.links;
+    events = later.events;
+  }
+
+  pub later_link : (n : Name) (l : Link) → IsLater W (record V { links = (n, l) ∷ V.links })
+  later_link n l = record {
+    definitions = later.definitions;
+    variables = later.variables;
+    theorems = later.theorems;
+    specifications = later.specifications;
+    isos = later.isos;
+    instances = later.instances;
+    links = grown (n, l) later.links;
+    events = later.events;
   }

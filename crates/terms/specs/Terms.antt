@@ -43,7 +43,7 @@ abbrev pub tm_list : Tms → List Tm
 tm_list Done = []
 tm_list (More t ts) = t ∷ tm_list ts
 
--- how many calls lie on the longest way down
+-- how many steps down the deepest part lies: it falls from a term to each of its arguments
 abbrev mutual
   pub depth : Tm → ℕ
   depth (Var x) = 0

@@ -9,6 +9,6 @@ returns c =
     let then = c.in_ok-then.ensures ∙ ap (λ s. substitute s measure) c.in_ok-images.ensures.replaces in
     λ i. record {
       universals = c.new.ensures i;
-      hyps = c.in_ok-copy.ensures i;
+      hyps = c.in_ok-without_repeats.ensures i;
       goal = (c.in_ok-goal.ensures ∙ (λ j. call2 (codes "<") (then j) (c.in_ok-share.ensures j))) i;
     }

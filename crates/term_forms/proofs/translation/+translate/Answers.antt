@@ -1,21 +1,27 @@
-use Rattle.std.proofs.Common.{◌≡◌, List, [], length, refl, arith, subst, Ok, Err, ap, sym, ◌∙◌}
+use Rattle.std.proofs.Common.{◌≡◌, List, [], length, map, refl, arith, subst, Ok, Err, ap, sym, ◌∙◌}
 use Rattle.lisp_data.specs.FormView.{form_of}
 use Rattle.term_forms.specs.Bindings.{stands}
 use Rattle.term_forms.specs.Heads.{IsWord}
 use Rattle.terms.specs.Terms.{Tm}
 use Rattle.term_forms.specs.TranslationView.{SaysOutcome}
-use Rattle.term_forms.proofs.Translated.{behind, head-taken, macro-taken, macro-refused, call-taken, so_many, let-behind, in_turn-behind}
+use Rattle.term_forms.proofs.Translated.{lists, behind, head-taken, macro-taken, macro-refused, call-taken, so_many, let-behind, in_turn-behind}
 use Rattle.term_forms.specs.Bindings.{replaced_by, SaysBindings}
 use Rattle.term_forms.specs.Heads.{head_of}
 use Rattle.term_forms.specs.Lets.{let_outcome, after_bindings}
 use Rattle.terms.specs.Substitution.{Pairs}
-use Rattle.term_forms.specs.Translation.{and_then, limited}
+use Rattle.lisp_data.specs.Datum.{chain, nil_form}
+use Rattle.term_forms.specs.Translation.{Outcome, and_then, limited, bad_form, translate}
 use Rattle.term_forms.specs.Words.{folded}
 use Rattle.term_forms.specs.declared.bindings.Binding.{Binding}
 use Rattle.term_forms.specs.declared.translation.Word.{Word}
 use Rattle.term_forms.proofs.Lets.{from, terms-refused, body-refused, let-taken, turn-refused, turn-taken, last-refused, last-taken}
 use Rattle.term_forms.proofs.Chosen.{clause-taken}
 use Rattle.term_forms.proofs.translation.+translate.Goals as goal
+
+pub list_term-returns-in-Int : goal.list_term-returns-in-Int
+list_term-returns-in-Int g t c =
+    let headed : translate (g.S.Signatures.arity_of c.args.sigs.now) (stands c.args.scope.now) (chain (map form_of c.args.items.now) nil_form) ≡ bad_form {A = Tm} = grind (arith, lists) in
+    subst (λ (o : Outcome Tm). SaysOutcome o c.bad_form.result) (sym headed) c.bad_form.ensures
 
 pub named_term-returns : goal.named_term-returns
 named_term-returns g t c =

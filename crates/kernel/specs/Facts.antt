@@ -1,0 +1,21 @@
+-- The rule that cites a fact of the world.
+use Rattle.std.specs.Prelude.{ℕ, zero, suc, List, slice_get, Option, None}
+use Rattle.terms.specs.Primitives.{lookup}
+use Rattle.terms.specs.Evaluation.{then_with}
+use Rattle.terms.specs.Worlds.{World}
+use Rattle.terms.specs.Sound.{iso_conditions}
+use Rattle.terms.specs.declared.sequent.Sequent.{Sequent}
+use Rattle.terms.specs.declared.entries.FactName.{FactName}
+use Rattle.terms.specs.declared.entries.FactName.TheVariants.{Theorem, Measure, Isomorphism}
+use Rattle.worlds.specs.Lookups.{find_iso}
+
+-- the item of a number, from 1
+abbrev pub item : {A : Type 0} → List A → ℕ → Option A
+item xs zero = None
+item xs (suc k) = slice_get xs k
+
+-- theorem: a theorem of the world, or a condition of one of its isomorphisms; what a measure owes isn't built yet
+abbrev pub fact_of : World → FactName → Option Sequent
+fact_of W (Theorem n) = lookup W.theorems n
+fact_of W (Measure f k) = None
+fact_of W (Isomorphism n k) = then_with (find_iso W.isos n) (λ i. item (iso_conditions i) k)

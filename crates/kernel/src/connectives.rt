@@ -1,0 +1,117 @@
+//! Equations, negations, implications and conditionals, and what they are made of.
+#![tactic(auto, unfolding(lisp_data::specs::SymbolText::is_symbol_text, lisp_data::specs::Atoms::leaf, lisp_data::specs::Atoms::in_atom, lisp_data::specs::Atoms::is_delimiter, lisp_data::specs::Atoms::is_sign))]
+
+ghost use Rattle.std.specs.Prelude.{◌≡◌, true, IfOk, codes};
+ghost use Rattle.std.specs.Option.{option_map, option_copied};
+ghost use Rattle.lisp_data.specs.SymbolText.{is_symbol_text};
+ghost use Rattle.terms.specs.Terms.{tms};
+ghost use Rattle.terms.specs.Measures.{call2 as Call2};
+ghost use Rattle.kernel.specs.Sequents.{equation, negation, implication, conditional, args_of, negated_of, sides_of};
+
+use lisp_data::{Memory, Seq, Symbol};
+use std::alloc::Global;
+use terms::{Node, Term, Terms};
+
+/// `(equal a b)`
+pub(crate) fn equation(alloc: Global, a: Term, b: Term) -> Result<Term, Memory>
+    ensures { IfOk result (λ t. t ≡ equation a b) }
+{
+    call2(alloc, "EQUAL", a, b)
+}
+
+/// `(implies a b)`
+pub(crate) fn implication(alloc: Global, a: Term, b: Term) -> Result<Term, Memory>
+    ensures { IfOk result (λ t. t ≡ implication a b) }
+{
+    call2(alloc, "IMPLIES", a, b)
+}
+
+/// `(not a)`
+pub(crate) fn negation(alloc: Global, a: Term) -> Result<Term, Memory>
+    ensures { IfOk result (λ t. t ≡ negation a) }
+{
+    let name = Symbol::named(alloc, "NOT")?;
+    let mut args = Seq::new(alloc);
+    args.push(a)?;
+    Term::call(alloc, name, args)
+}
+
+/// `(if a b c)`
+pub(crate) fn conditional(alloc: Global, a: Term, b: Term, c: Term) -> Result<Term, Memory>
+    ensures { IfOk result (λ t. t ≡ conditional a b c) }
+{
+    let name = Symbol::named(alloc, "IF")?;
+    let mut args = Seq::new(alloc);
+    args.push(a)?;
+    args.push(b)?;
+    args.push(c)?;
+    Term::call(alloc, name, args)
+}
+
+fn call2(alloc: Global, name: &str, a: Term, b: Term) -> Result<Term, Memory>
+    requires { is_symbol_text name.now ≡ true }
+    ensures { IfOk result (λ t. t ≡ Call2 name.now a b) }
+{
+    let name = Symbol::named(alloc, name)?;
+    let mut args = Seq::new(alloc);
+    args.push(a)?;
+    args.push(b)?;
+    Term::call(alloc, name, args)
+}
+
+/// What a negation negates.
+#[tactic(auto, using(crate::proofs::Args::parts))]
+pub(crate) fn negated_of<'a>(term: &'a Term) -> Option<&'a Term>
+    ensures { option_copied result ≡ negated_of term.now }
+{
+    let Some(args) = args_of("NOT", term) else {
+        return None;
+    };
+    match args.as_slice() {
+        [negated] => Some(negated),
+        _ => None,
+    }
+}
+
+/// The two sides of an equation.
+pub(crate) fn equal_sides<'a>(term: &'a Term) -> Option<(&'a Term, &'a Term)>
+    ensures { option_map (λ e. (e.0.now, e.1.now)) result ≡ sides_of (codes "EQUAL") term.now }
+{
+    sides_of("EQUAL", term)
+}
+
+/// The two sides of an implication.
+pub(crate) fn implies_sides<'a>(term: &'a Term) -> Option<(&'a Term, &'a Term)>
+    ensures { option_map (λ e. (e.0.now, e.1.now)) result ≡ sides_of (codes "IMPLIES") term.now }
+{
+    sides_of("IMPLIES", term)
+}
+
+#[tactic(auto, using(crate::proofs::Args::parts))]
+fn sides_of<'a>(name: &str, term: &'a Term) -> Option<(&'a Term, &'a Term)>
+    ensures { option_map (λ e. (e.0.now, e.1.now)) result ≡ sides_of name.now term.now }
+{
+    let Some(args) = args_of(name, term) else {
+        return None;
+    };
+    match args.as_slice() {
+        [left, right] => Some((left, right)),
+        _ => None,
+    }
+}
+
+/// The arguments of a call of the function with this name.
+fn args_of<'a>(name: &str, term: &'a Term) -> Option<&'a Terms>
+    ensures { option_map (λ ts. tms ts.now) result ≡ args_of name.now term.now }
+{
+    match term.node() {
+        Node::Var(_) => None,
+        Node::Quote(_) => None,
+        Node::Call(function, args) => {
+            if function.text() != name {
+                return None;
+            }
+            Some(args)
+        }
+    }
+}

@@ -1,0 +1,125 @@
+//! What the rule on facts of the world concludes, as docs/KERNEL.md says.
+#![tactic(auto, unfolding(lisp_data::specs::SymbolText::is_symbol_text, lisp_data::specs::Atoms::leaf, lisp_data::specs::Atoms::in_atom, lisp_data::specs::Atoms::is_delimiter, lisp_data::specs::Atoms::is_sign))]
+
+ghost use Rattle.std.specs.Prelude.{◌≡◌, IfOk, IsSome, Some, codes};
+ghost use Rattle.terms.specs.Measures.{call1 as Call1};
+ghost use Rattle.terms.specs.Primitives.{lookup};
+ghost use Rattle.terms.specs.Sound.{iso_conditions, over_x};
+ghost use Rattle.terms.specs.Terms.{Var};
+ghost use Rattle.terms.specs.Evaluation.{then_with};
+ghost use Rattle.worlds.specs.Lookups.{find_iso};
+ghost use Rattle.kernel.specs.Facts.{fact_of, item};
+ghost use Rattle.kernel.specs.Answers.{SaysSequent};
+
+use crate::connectives::equation;
+use crate::errors::RuleError;
+use lisp_data::{Memory, Seq, Symbol};
+use std::alloc::Global;
+use terms::{FactName, Iso, Sequent, Term};
+use worlds::World;
+
+/// Theorem: a theorem of the world, or a condition of one of its isomorphisms.
+pub(crate) fn fact_of(alloc: Global, world: &World, fact: &FactName) -> Result<Sequent, RuleError>
+    ensures { SaysSequent (fact_of world.now fact.now) result }
+{
+    match fact {
+        FactName::Theorem(name) => theorem(alloc, world, name),
+        FactName::Measure(_, _) => Err(RuleError::Refused),
+        FactName::Isomorphism(name, number) => iso_condition(alloc, world, name, *number),
+    }
+}
+
+/// The same name, with one more owner.
+pub(crate) fn shared(fact: &FactName) -> Result<FactName, Memory>
+    ensures { IfOk result (λ f. f ≡ fact.now) }
+{
+    let fact = match fact {
+        FactName::Theorem(name) => FactName::Theorem(name.share()?),
+        FactName::Measure(name, number) => FactName::Measure(name.share()?, *number),
+        FactName::Isomorphism(name, number) => FactName::Isomorphism(name.share()?, *number),
+    };
+    Ok(fact)
+}
+
+fn theorem(alloc: Global, world: &World, name: &Symbol) -> Result<Sequent, RuleError>
+    ensures { SaysSequent (lookup world.now.theorems name.now) result }
+{
+    let Some(sequent) = world.find_theorem(name) else {
+        return Err(RuleError::Refused);
+    };
+    let sequent = sequent.copy(alloc)?;
+    Ok(sequent)
+}
+
+fn iso_condition(
+    alloc: Global,
+    world: &World,
+    name: &Symbol,
+    number: u32,
+) -> Result<Sequent, RuleError>
+    ensures { SaysSequent (then_with (find_iso world.now.isos name.now) (λ i. item (iso_conditions i) number)) result }
+{
+    let Some(iso) = world.find_iso(name) else {
+        return Err(RuleError::Refused);
+    };
+    if number < 1 || 4 < number {
+        return Err(RuleError::Refused);
+    }
+    let sequent = condition_of(alloc, iso, number)?;
+    Ok(sequent)
+}
+
+/// The condition of this number, from 1 to 4.
+fn condition_of(alloc: Global, iso: &Iso, number: u32) -> Result<Sequent, Memory>
+    requires { IsSome (item (iso_conditions iso.now) number) }
+    ensures { IfOk result (λ s. item (iso_conditions iso.now) number ≡ Some s) }
+{
+    let x = x(alloc)?;
+    match number {
+        1 => {
+            let image = call(alloc, &iso.forth, x)?;
+            over_x(alloc, &iso.oldp, call(alloc, &iso.newp, image)?)
+        }
+        2 => {
+            let image = call(alloc, &iso.back, x)?;
+            over_x(alloc, &iso.newp, call(alloc, &iso.oldp, image)?)
+        }
+        3 => {
+            let image = call(alloc, &iso.forth, x.share()?)?;
+            let again = call(alloc, &iso.back, image)?;
+            over_x(alloc, &iso.oldp, equation(alloc, again, x)?)
+        }
+        _ => {
+            let image = call(alloc, &iso.back, x.share()?)?;
+            let again = call(alloc, &iso.forth, image)?;
+            over_x(alloc, &iso.newp, equation(alloc, again, x)?)
+        }
+    }
+}
+
+/// The goal, where the predicate is true of x.
+fn over_x(alloc: Global, predicate: &Symbol, goal: Term) -> Result<Sequent, Memory>
+    ensures { IfOk result (λ s. s ≡ over_x predicate.now goal) }
+{
+    let mut hyps = Seq::new(alloc);
+    hyps.push(call(alloc, predicate, x(alloc)?)?)?;
+    Ok(Sequent {
+        universals: Seq::new(alloc),
+        hyps,
+        goal,
+    })
+}
+
+fn call(alloc: Global, name: &Symbol, a: Term) -> Result<Term, Memory>
+    ensures { IfOk result (λ t. t ≡ Call1 name.now a) }
+{
+    let mut args = Seq::new(alloc);
+    args.push(a)?;
+    Term::call(alloc, name.share()?, args)
+}
+
+fn x(alloc: Global) -> Result<Term, Memory>
+    ensures { IfOk result (λ t. t ≡ Var (codes "X")) }
+{
+    Term::var(alloc, Symbol::named(alloc, "X")?)
+}
