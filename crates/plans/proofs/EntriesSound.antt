@@ -6,18 +6,15 @@ use Rattle.terms.specs.Definitions.{find}
 use Rattle.terms.specs.Worlds.{World, names, Each, IsIn, FitsSequent, Holds, arity, arity_by}
 use Rattle.terms.specs.Measures.{obligations}
 use Rattle.terms.specs.Formed.{with_def, FitsOver, IsFormed, ObligationsHold}
-use Rattle.terms.specs.Later.{IsLater}
 use Rattle.terms.specs.Sound.{Sound, initial_world, AllHold, iso_conditions, add_definition}
 use Rattle.terms.specs.declared.definition.Definition.{Definition}
 use Rattle.terms.specs.declared.sequent.Sequent.{Sequent}
 use Rattle.terms.specs.declared.entries.Iso.{Iso}
-use Rattle.terms.specs.declared.entries.FunPair.{FunPair}
-use Rattle.terms.specs.declared.entries.Link.{Link}
 use Rattle.worlds.specs.Entries.{instance_of}
 use Rattle.terms.proofs.Names.{same_name}
 use Rattle.terms.proofs.Extend.{over_map, arity_later}
 use Rattle.terms.proofs.Later.{has_basics}
-use Rattle.terms.proofs.LaterSteps.{grown, continued, later_definition}
+use Rattle.terms.proofs.LaterSteps.{later_definition, later_iso, later_instance, later_link}
 use Rattle.terms.proofs.Totality.{each_to, stays_total}
 use Rattle.terms.proofs.Growth.{obligations_fit, sequent_later, holds_later, free_primitive, with_theorem, Inserted, inserted_here, inserted_after}
 use Rattle.terms.proofs.MoreEntries.{with_variable, with_specification}
@@ -71,44 +68,6 @@ with_new W sound d a =
       flat = ok.flat;
     }) f.new a.owed
 
--- a world stays later than another with one entry more
-module _ (W V : World) (later : IsLater W V) where
-  later_iso : (i : Iso) → IsLater W (add_entry (Isomorphism i) V)
-  later_iso i = record {
-    definitions = later.definitions;
-    variables = later.variables;
-    theorems = later.theorems;
-    specifications = later.specifications;
-    isos = grown i later.isos;
-    instances = later.instances;
-    links = later.links;
-    events = later.events;
-  }
-
-  later_instance : (of : Name) (pairs : List FunPair) (instance : Name) → IsLater W (add_entry (Instance of pairs instance) V)
-  later_instance of pairs instance = record {
-    definitions = later.definitions;
-    variables = later.variables;
-    theorems = later.theorems;
-    specifications = later.specifications;
-    isos = later.isos;
-    instances = continued W.instances V.instances (instance_of of pairs instance) later.instances;
-    links = later.links;
-    events = later.events;
-  }
-
-  later_link : (n : Name) (l : Link) → IsLater W (add_entry (Chained n l) V)
-  later_link n l = record {
-    definitions = later.definitions;
-    variables = later.variables;
-    theorems = later.theorems;
-    specifications = later.specifications;
-    isos = later.isos;
-    instances = later.instances;
-    links = grown (n, l) later.links;
-    events = later.events;
-  }
-
 -- an isomorphism whose conditions hold
 with_iso : (W : World) → Sound W → (i : Iso) → primitive i.name ≡ None → (IsIn (names W) i.name → ⊥) → AllHold W.functions (iso_conditions i) → Sound (record W { isos = i ∷ W.isos })
 with_iso W sound i unlike new hold =
@@ -142,7 +101,7 @@ entry_sound W sound (Instance of pairs instance) a = record {
   unlike_primitives = sound.unlike_primitives;
   formed = sound.formed;
   total = sound.total;
-  later = later_instance initial_world W sound.later of pairs instance;
+  later = later_instance initial_world W sound.later (instance_of of pairs instance);
   obligations = sound.obligations;
   theorems = sound.theorems;
   specifications = sound.specifications;

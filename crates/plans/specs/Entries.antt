@@ -1,5 +1,5 @@
 -- What entries add to a world, and what it takes for a world to stay sound with them.
-use Rattle.std.specs.Prelude.{◌≡◌, true, false, List, [], ◌∷◌, ◌++◌}
+use Rattle.std.specs.Prelude.{◌≡◌, true, false, List, [], ◌∷◌}
 use Rattle.terms.specs.Worlds.{World, FitsSequent, Holds}
 use Rattle.terms.specs.Measures.{mentions}
 use Rattle.terms.specs.Formed.{IsWellFormed, FitsOver, ObligationsHold}
@@ -7,7 +7,7 @@ use Rattle.terms.specs.Sound.{AllHold, iso_conditions, add_definition, add_varia
 use Rattle.terms.specs.declared.definition.Definition.{Definition}
 use Rattle.terms.specs.declared.sequent.Sequent.{Sequent}
 use Rattle.worlds.specs.Names.{is_free}
-use Rattle.worlds.specs.Entries.{instance_of}
+use Rattle.worlds.specs.Entries.{add_iso, add_instance, add_link}
 use Rattle.plans.specs.declared.plan.Entry.{Entry}
 use Rattle.plans.specs.declared.plan.Entry.TheVariants.{Function, Variable, Theorem, Spec, Isomorphism, Instance, Chained}
 
@@ -17,9 +17,9 @@ add_entry (Function d) W = add_definition d W
 add_entry (Variable x k) W = add_variable x k W
 add_entry (Theorem n s) W = add_theorem n s W
 add_entry (Spec s) W = add_specification s W
-add_entry (Isomorphism i) W = record W { isos = i ∷ W.isos }
-add_entry (Instance of pairs instance) W = record W { instances = W.instances ++ instance_of of pairs instance ∷ [] }
-add_entry (Chained n l) W = record W { links = (n, l) ∷ W.links }
+add_entry (Isomorphism i) W = add_iso i W
+add_entry (Instance of pairs instance) W = add_instance of pairs instance W
+add_entry (Chained n l) W = add_link n l W
 
 -- one after the other
 abbrev pub add_entries : List Entry → World → World
@@ -65,12 +65,7 @@ abbrev pub AdmitsAll : World → List Entry → Type 0
 AdmitsAll W [] = Unit {0}
 AdmitsAll W (e ∷ es) = Admits W e × AdmitsAll (add_entry e W) es
 
--- what worlds take as yet: no recursive function, and no isomorphism, instance or link
+-- what worlds take as yet: no recursive function
 abbrev pub IsBuilt : Entry → Type 0
 IsBuilt (Function d) = mentions d.name d.body ≡ false
-IsBuilt (Variable x k) = Unit {0}
-IsBuilt (Theorem n s) = Unit {0}
-IsBuilt (Spec s) = Unit {0}
-IsBuilt (Isomorphism i) = ⊥
-IsBuilt (Instance of pairs instance) = ⊥
-IsBuilt (Chained n l) = ⊥
+IsBuilt _ = Unit {0}

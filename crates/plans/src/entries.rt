@@ -41,7 +41,7 @@ fn with_new_theorem(
     grown(world.with_theorem(alloc, name, sequent))
 }
 
-/// The world with one more entry. Nothing makes an isomorphism, an instance or a link yet.
+/// The world with one more entry.
 fn with_entry(alloc: Global, world: &World, entry: &Entry) -> Result<World, Memory>
     requires admits { Admits world.now entry.now }
     requires built { IsBuilt entry.now }
@@ -54,7 +54,13 @@ fn with_entry(alloc: Global, world: &World, entry: &Entry) -> Result<World, Memo
         Entry::Variable(name, arity) => grown(world.with_variable(alloc, name.share()?, *arity)),
         Entry::Theorem(name, sequent) => with_new_theorem(alloc, world, name, sequent),
         Entry::Spec(specification) => grown(world.with_spec(alloc, specification.copy(alloc)?)),
-        Entry::Isomorphism(_) | Entry::Instance(_, _, _) | Entry::Chained(_, _) => unreachable!(),
+        Entry::Isomorphism(iso) => grown(world.with_iso(alloc, iso.copy(alloc)?)),
+        Entry::Instance(of, pairs, instance) => {
+            world.with_instance(alloc, of.share()?, pairs.copy(alloc)?, instance.share()?)
+        }
+        Entry::Chained(theorem, link) => {
+            world.with_link(alloc, theorem.share()?, link.copy(alloc)?)
+        }
     }
 }
 
