@@ -11,31 +11,32 @@ use Rattle.lisp_data.specs.Datum.{Datum}
 use Rattle.lisp_data.specs.declared.code.Code.{Code}
 use Rattle.lisp_reader.specs.Grammar.{parse, book_of}
 use Rattle.lisp_reader.proofs.Ends.{goes_on}
+use Rattle.book_cli.specs.declared.limits.TheConstants.{MAX_BOOK}
 use Rattle.book_cli.specs.declared.progress.Progress.{Progress}
 use Rattle.terms.specs.Sound.{Sound}
 use Rattle.book_cli.specs.Report.{Read, accepts, accepts_all, report_of, world_made}
 use Rattle.book_cli.specs.Outcomes.{IsReported, IsAcceptedRun, IsRefusedRun}
 use Rattle.book_cli.proofs.ReportLemmas.{begun_cut}
 
-pub whole_is : (bytes : List ℕ) → length bytes ≤ 1048576 → book_of bytes ≡ parse false bytes
+pub whole_is : (bytes : List ℕ) → length bytes ≤ MAX_BOOK → book_of bytes ≡ parse false bytes
 whole_is bytes h =
-    let test : nat_lt 1048576 (length bytes) ≡ false = grind (arith, nat_tests) in
-    ap (λ b. if b then parse true (take 1048576 bytes) else parse false bytes) test
+    let test : nat_lt MAX_BOOK (length bytes) ≡ false = grind (arith, nat_tests) in
+    ap (λ b. if b then parse true (take MAX_BOOK bytes) else parse false bytes) test
 
-front_is : (bytes : List ℕ) → 1048576 < length bytes → book_of bytes ≡ parse true (take 1048576 bytes)
+front_is : (bytes : List ℕ) → MAX_BOOK < length bytes → book_of bytes ≡ parse true (take MAX_BOOK bytes)
 front_is bytes h =
-    let test : nat_lt 1048576 (length bytes) ≡ true = grind (arith, nat_tests) in
-    ap (λ b. if b then parse true (take 1048576 bytes) else parse false bytes) test
+    let test : nat_lt MAX_BOOK (length bytes) ≡ true = grind (arith, nat_tests) in
+    ap (λ b. if b then parse true (take MAX_BOOK bytes) else parse false bytes) test
 
 -- a book that was read whole
-pub whole_book : (left after : Option (List ℕ)) (all : List ℕ) → IsWhole left after 1048576 all → IfSome left (λ bytes. book_of bytes ≡ parse false all)
+pub whole_book : (left after : Option (List ℕ)) (all : List ℕ) → IsWhole left after MAX_BOOK all → IfSome left (λ bytes. book_of bytes ≡ parse false all)
 whole_book None after all it = tt
 whole_book (Some bytes) after all it =
     let e : all ≡ bytes = it.all_left in
-    whole_is bytes (subst (λ (xs : List ℕ). length xs ≤ 1048576) e it.within) ∙ ap (parse false) (sym e)
+    whole_is bytes (subst (λ (xs : List ℕ). length xs ≤ MAX_BOOK) e it.within) ∙ ap (parse false) (sym e)
 
 -- a longer book
-pub front_book : (left : Option (List ℕ)) (front : List ℕ) → IsCut left 1048576 front → IfSome left (λ bytes. book_of bytes ≡ parse true front)
+pub front_book : (left : Option (List ℕ)) (front : List ℕ) → IsCut left MAX_BOOK front → IfSome left (λ bytes. book_of bytes ≡ parse true front)
 front_book None front it = tt
 front_book (Some bytes) front it = front_is bytes it.more ∙ ap (parse true) (sym it.first)
 
@@ -60,7 +61,7 @@ pub front_second : (a b c : Option (List ℕ)) (p q : List ℕ) → Grows a b p 
 front_second a b c p q g h = begun_cut a b c q q [] (p ++ q) (record { written = p; grown = g; split = refl }) (sym (append-nil q)) h
 
 -- a book that was read whole and reported
-pub accepted_run : (continues : Bool) (left left_after held held_after : Option (List ℕ)) (bytes : List ℕ) → IsWhole left left_after 1048576 bytes → IsReported continues held held_after (parse false bytes) true → IsAcceptedRun continues left left_after held held_after
+pub accepted_run : (continues : Bool) (left left_after held held_after : Option (List ℕ)) (bytes : List ℕ) → IsWhole left left_after MAX_BOOK bytes → IsReported continues held held_after (parse false bytes) true → IsAcceptedRun continues left left_after held held_after
 accepted_run continues left left_after held held_after bytes whole it =
     let same : book_of bytes ≡ parse false bytes = whole_is bytes whole.within in
     record {

@@ -5,14 +5,11 @@ use Rattle.ports.specs.ReadAll.{IsWhole}
 use Rattle.lisp_reader.specs.Grammar.{book_of}
 use Rattle.terms.specs.Sound.{Sound}
 use Rattle.book_cli.specs.Report.{Read, report_of, accepts_all, world_made, report, is_accepted, world_of}
+use Rattle.book_cli.specs.declared.limits.TheConstants.{MAX_BOOK}
 use Rattle.book_cli.specs.declared.status.Status.{Status}
 use Rattle.book_cli.specs.declared.status.Status.TheVariants.{Accepted, Refused, Usage, ReadFault, WriteFault, Memory}
 use Rattle.book_cli.specs.declared.stop.Stop.{Stop}
 use Rattle.book_cli.specs.declared.stop.Stop.TheVariants as stop
-
--- the longest book, in bytes
-abbrev pub book_limit : ℕ
-book_limit = 1048576
 
 abbrev pub code_of : Status → ℕ
 code_of Accepted = 0
@@ -70,7 +67,7 @@ pub record IsReported (continues : Bool) (before after : Option (List ℕ)) (rea
 -- and its world is sound.
 pub record IsAcceptedRun (continues : Bool) (left left_after held held_after : Option (List ℕ)) : Type 0 where
   pub book : List ℕ
-  pub whole : IsWhole left left_after book_limit book
+  pub whole : IsWhole left left_after MAX_BOOK book
   pub written : Grows held held_after (report continues book)
   pub none_refused : is_accepted book ≡ true
   pub sound : Sound (world_of continues book)

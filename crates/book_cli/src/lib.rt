@@ -1,6 +1,7 @@
 //! Books: their report, and the run of the program.
 #![tactic(auto)]
 
+mod limits;
 mod program;
 mod progress;
 mod report;
@@ -8,6 +9,7 @@ mod status;
 mod stop;
 mod words;
 
+pub use limits::{MAX_BOOK, MAX_EVENTS};
 pub use lists::{Bytes, Seq, Text};
 pub use events::{EventProofs, Lines, ProvedList, Refusal, StepAnswer, step};
 pub use program::{Words, run};

@@ -8,6 +8,7 @@ ghost use Rattle.book_cli.specs.CommandLines.{IsModeLine, continues};
 ghost use Rattle.book_cli.specs.Report.{report, report_of};
 ghost use Rattle.book_cli.specs.Outcomes.{IsAcceptedRun, IsRefusedRun, IsReported, IsReportStatus, IsOfModeLine, IsUntouched, is_cut};
 
+use crate::limits::MAX_BOOK;
 use crate::report::write_report;
 use crate::status::{Status, status_of};
 use crate::words::{WordsError, read_words};
@@ -79,7 +80,7 @@ fn check_book<B: Source, K: Sink>(
     ensures read_fault_untouched { result ≡ Status.ReadFault → IsUntouched (K.held out.old) (K.held out.new) (K.faults out.old) (K.faults out.new) }
     ensures write_fault { result ≡ Status.WriteFault → Rose (K.faults out.old) (K.faults out.new) }
 {
-    match read_all(alloc, book, LIMIT) {
+    match read_all(alloc, book, MAX_BOOK) {
         Ok(bytes) => report_bytes(alloc, bytes.as_slice(), false, continues, out),
         Err(error) => match error {
             ReadAllError::ReadFault => Status::ReadFault,
