@@ -30,13 +30,13 @@ module _ (more : Bool) where
   abbrev ended : ℕ → Answers
   ended place = ([], if more then Some (BookTooLong, place) else None)
 
-  book-nothing : (left at : ℕ) (t : List ℕ) → length (behind t) ≡ 0 → book more left at 0 t ≡ ended (at + gaps t)
+  pub book-nothing : (left at : ℕ) (t : List ℕ) → length (behind t) ≡ 0 → book more left at 0 t ≡ ended (at + gaps t)
   unfolding book gaps_from
   book-nothing left at [] h = let e : at ≡ at + 0 = omega arith in ap ended e
   book-nothing left at (b ∷ t) h =
       ap (λ n. cond (nat_eq n 0) (ended (at + gaps (b ∷ t))) (book_and more (next_form more (nat_eq left 0) (b ∷ t)) at (λ f n. before more (f, at + gaps (b ∷ t)) (book more (left - 1) (at + 1) n t)))) h
 
-  book-and : (left at : ℕ) (t : List ℕ) (r : Read) → nat_eq (length (behind t)) 0 ≡ false → next_form more (nat_eq left 0) t ≡ r →
+  pub book-and : (left at : ℕ) (t : List ℕ) (r : Read) → nat_eq (length (behind t)) 0 ≡ false → next_form more (nat_eq left 0) t ≡ r →
       (b : ℕ) (s : List ℕ) → t ≡ b ∷ s → book more left at 0 t ≡ book_and more r at (λ f n. before more (f, at + gaps t) (book more (left - 1) (at + 1) n s))
   unfolding book
   book-and left at [] r h e b s is = cc

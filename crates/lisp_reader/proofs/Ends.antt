@@ -11,7 +11,7 @@ use Rattle.lisp_data.specs.declared.code.Code.TheVariants.{TooDeep, BookTooLong}
 abbrev Books : Type 0
 Books = List (Datum × ℕ) × Option (Code × ℕ)
 
-abbrev IsBad : Read → Type 0
+abbrev pub IsBad : Read → Type 0
 IsBad (Got f n) = ⊥
 IsBad (Bad c n) = Unit {0}
 
@@ -66,7 +66,7 @@ module _ (more : Bool) where
       (sharp_any inside (λ t. shift 1 (items more (form more true depth) false 0 (drop 1 t))) (λ t. shift 1 (mapped quote_form (form more true depth (drop 1 t)))) (behind text) h)
 
   -- no form is read where no more may come
-  none_bad : (text : List ℕ) → IsBad (next_form more true text)
+  pub none_bad : (text : List ℕ) → IsBad (next_form more true text)
   unfolding begins_form
   none_bad text = by_front (begins (front (behind text))) (more && is_sharp (behind text)) refl refl
     where

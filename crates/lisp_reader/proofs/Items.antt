@@ -39,11 +39,11 @@ module _ (more : Bool) where
   items-points f some [] h = cc
   items-points f some (b ∷ t) h = ap (λ k. by_kind k (Got nil_form (gaps (b ∷ t))) (shift (gaps (b ∷ t) + 1) (last more f (drop (gaps (b ∷ t) + 1) (b ∷ t)))) (and_then (f (b ∷ t)) (λ x m. mapped (PairForm x) (shift 1 (items more f true m t))))) h
 
-  pub items-item : (f : List ℕ → Read) (some : Bool) (t : List ℕ) (x : Datum) (n : ℕ) → kind more some t ≡ Item → f t ≡ Got x n → n < length t →
+  pub items-next : (f : List ℕ → Read) (some : Bool) (t : List ℕ) (x : Datum) (n : ℕ) → kind more some t ≡ Item → f t ≡ Got x n → 0 < length t →
       items more f some 0 t ≡ mapped (PairForm x) (shift (n + 1) (items more f true 0 (drop (n + 1) t)))
   unfolding items
-  items-item f some [] x n h r room = absurd (omega arith)
-  items-item f some (b ∷ t) x n h r room =
+  items-next f some [] x n h r room = absurd (omega arith)
+  items-next f some (b ∷ t) x n h r room =
       let rest : Datum → ℕ → Read = λ x m. mapped (PairForm x) (shift 1 (items more f true m t)) in
       let plus : 1 + n ≡ n + 1 = omega arith in
       let next : suc n ≡ n + 1 = omega arith in
@@ -53,6 +53,10 @@ module _ (more : Bool) where
       ∙ ap (mapped (PairForm x)) (shift-shift 1 n _)
       ∙ ap (λ m. mapped (PairForm x) (shift m (items more f true 0 (drop n t)))) plus
       ∙ ap (λ m. mapped (PairForm x) (shift (n + 1) (items more f true 0 (drop m (b ∷ t))))) next
+
+  pub items-item : (f : List ℕ → Read) (some : Bool) (t : List ℕ) (x : Datum) (n : ℕ) → kind more some t ≡ Item → f t ≡ Got x n → n < length t →
+      items more f some 0 t ≡ mapped (PairForm x) (shift (n + 1) (items more f true 0 (drop (n + 1) t)))
+  items-item f some t x n h r room = items-next f some t x n h r (omega arith)
 
   items-bad : (f : List ℕ → Read) (some : Bool) (t : List ℕ) (c : Code) (n : ℕ) → kind more some t ≡ Item → f [] ≡ Bad (at_end more UnclosedList) 0 → f t ≡ Bad c n →
       items more f some 0 t ≡ Bad c n

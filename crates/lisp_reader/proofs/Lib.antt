@@ -8,5 +8,6 @@ pub mod Values
 pub mod Prints
 pub mod Numerals
 pub mod Again
+pub mod RelationLaws
 pub mod CallLaws
 pub mod Ends

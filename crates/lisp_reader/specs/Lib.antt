@@ -2,6 +2,7 @@ pub mod Spans
 pub mod TokenView
 pub mod Grammar
 pub mod Says
+pub mod Relation
 pub mod Closes
 pub mod KindView
 pub mod Answers

@@ -6,12 +6,19 @@ ghost use Rattle.lisp_data.specs.Values.{Val};
 ghost use Rattle.lisp_reader.specs.Answers.{Answers};
 ghost use Rattle.lisp_reader.specs.Calls.{Answer, Run, ReadsInOrder};
 ghost use Rattle.lisp_reader.specs.Printed.{datum_of, IsPrintable, IsReadAgain, IsValueAgain};
+ghost use Rattle.lisp_reader.specs.Relation.{GrammarIsRelation};
 ghost use Rattle.lisp_reader.specs.Texts.{TextsAreRead, PrintsAreTexts};
 
 /// However a book is read call by call, the forms, their order and the end or first fault are the book's.
 #[tactic(auto, using(crate::proofs::CallLaws::calls))]
 pub fn calls_read_in_order()
     ensures { (old : Answers) (rs : List Answer) (new : Answers) → Run old rs new → ReadsInOrder old new rs }
+{}
+
+/// A whole text has no fault exactly where it is a book by the relation of forms and texts, and its forms are the relation's.
+#[tactic(auto, using(crate::proofs::RelationLaws::relation_laws))]
+pub fn grammar_is_a_relation()
+    ensures { GrammarIsRelation }
 {}
 
 /// Each text of a form is read as that form: a list that begins with QUOTE may be written with a quote.

@@ -94,18 +94,6 @@ impl Subst {
         self.pairs.as_slice()
     }
 
-    /// An equal substitution, with its names and terms shared.
-    #[tactic(auto, using(crate::proofs::Args::args))]
-    pub fn copy(&self, alloc: Global) -> Result<Subst, Memory>
-        ensures { IfOk result (λ s. s ≡ self.now) }
-    {
-        let mut pairs = Seq::new(alloc);
-        for pair in self.pairs.as_slice() {
-            pairs.push((pair.0.share()?, pair.1.share()?))?;
-        }
-        Ok(Subst { pairs })
-    }
-
     /// Adds a pair of a new variable at the end. Where there is no memory the list is as before.
     #[tactic(auto, using(crate::proofs::Keys::keys))]
     pub fn push(&mut self, name: Symbol, term: Term) -> Result<(), Memory>
