@@ -11,7 +11,7 @@ use Rattle.lisp_data.specs.declared.detail.Detail.TheVariants as detail
 use Rattle.lisp_data.specs.declared.form.Form.{Form}
 use Rattle.terms.specs.Worlds.{is_in}
 use Rattle.term_forms.specs.Translation.{Outcome, map_outcome, and_rest, distinct_after}
-use Rattle.event_forms.proofs.ItemLemmas.{proper_at}
+use Rattle.proof_texts.proofs.ItemLemmas.{proper_at}
 use Rattle.events.specs.Definitions.{formal_of, names_of}
 
 -- the names from the place i on

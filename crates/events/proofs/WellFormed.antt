@@ -22,7 +22,7 @@ use Rattle.terms.proofs.Names.{same_name, name_self}
 use Rattle.term_forms.specs.Names.{is_function_name}
 use Rattle.worlds.specs.Names.{is_free}
 use Rattle.worlds.proofs.Free.{free}
-use Rattle.event_forms.specs.ProofTexts.{any}
+use Rattle.proof_texts.specs.Parts.{any}
 use Rattle.events.specs.declared.definitions.TheConstants.{MAX_FORMALS}
 use Rattle.events.proofs.Inversions.{then_ok, map_ok, if_ok, unless_ok}
 use Rattle.lisp_data.specs.declared.code.Code.TheVariants as code

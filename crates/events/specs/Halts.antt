@@ -14,6 +14,8 @@ use Rattle.kernel.specs.declared.errors.RuleName.{RuleName}
 use Rattle.event_forms.specs.Shapes.{Event}
 use Rattle.event_forms.specs.declared.errors.EventError.{EventError}
 use Rattle.event_forms.specs.declared.errors.EventError.TheVariants as event
+use Rattle.proof_texts.specs.declared.errors.ProofError.{ProofError}
+use Rattle.proof_texts.specs.declared.errors.ProofError.TheVariants as proof
 use Rattle.plans.specs.declared.plan.Condition.{Condition}
 use Rattle.plans.specs.declared.plan.Plan.{Plan}
 use Rattle.plans.specs.Entries.{add_entries}
@@ -69,10 +71,14 @@ Says seen o (Ok x) = o ≡ Ok (seen x)
 Says seen o (Err (Refused why)) = o ≡ Err why
 Says seen o (Err Memory) = Unit {0}
 
--- an error of a form or a term, as what ends the handling of its event
+-- an error of a form, a proof's text or a term, as what ends the handling of its event
 abbrev pub IsFromEvent : EventError → Halt → Type 0
 IsFromEvent (event.Refused code detail) e = e ≡ Refused (Coded code detail)
 IsFromEvent event.Memory e = e ≡ Memory
+
+abbrev pub IsFromProof : ProofError → Halt → Type 0
+IsFromProof (proof.Refused code detail) e = e ≡ Refused (Coded code detail)
+IsFromProof proof.Memory e = e ≡ Memory
 
 abbrev pub IsFromTerm : TermError → Halt → Type 0
 IsFromTerm (term.Refused code detail) e = e ≡ Refused (Coded code detail)

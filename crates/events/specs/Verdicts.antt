@@ -5,7 +5,7 @@ use Rattle.lisp_data.specs.Datum.{Datum}
 use Rattle.lisp_data.specs.declared.detail.Detail.TheVariants as detail
 use Rattle.lisp_data.specs.declared.code.Code.{Code}
 use Rattle.lisp_data.specs.declared.code.Code.TheVariants as code
-use Rattle.terms.specs.Worlds.{World, Functions, arity, is_in}
+use Rattle.terms.specs.Worlds.{World, is_in}
 use Rattle.terms.specs.Sound.{add_event}
 use Rattle.term_forms.specs.Translation.{Outcome, and_then, map_outcome}
 use Rattle.terms.specs.declared.sequent.Sequent.{Sequent}
@@ -15,7 +15,7 @@ use Rattle.kernel.specs.Concludes.{BadNode, concludes, first_bad}
 use Rattle.kernel.specs.declared.errors.RuleName.TheVariants.{Rule as OfRule, Claim}
 use Rattle.event_forms.specs.Shapes.{Event, event_of}
 use Rattle.event_forms.specs.Refused.{not_an_event}
-use Rattle.event_forms.specs.ProofTexts.{proof_of}
+use Rattle.proof_texts.specs.ProofTexts.{proof_of}
 use Rattle.plans.specs.declared.plan.Condition.{Condition}
 use Rattle.plans.specs.declared.plan.Plan.{Plan}
 use Rattle.plans.specs.Entries.{add_entries}
@@ -62,12 +62,12 @@ clause_of [] n = None
 clause_of (p ∷ ps) n = if bytes_eq n p.0 then Some p.1 else clause_of ps n
 
 -- how a condition is proved: by the proof of a text; a condition without one isn't proved yet
-abbrev pub way_by : Functions → Option Datum → Outcome Way
+abbrev pub way_by : World → Option Datum → Outcome Way
 way_by W None = not_an_event
-way_by W (Some text) = map_outcome ByProof (proof_of (arity W) text)
+way_by W (Some text) = map_outcome ByProof (proof_of W text)
 
 -- the ways of conditions, in order
-abbrev pub ways : Functions → Clauses → List Condition → Outcome (List Way)
+abbrev pub ways : World → Clauses → List Condition → Outcome (List Way)
 ways W clauses [] = Ok []
 ways W clauses (c ∷ cs) =
     and_then (way_by W (clause_of clauses.proofs c.name)) (λ w. map_outcome (λ ws. w ∷ ws) (ways W clauses cs))
@@ -100,7 +100,7 @@ all_proved W (c ∷ cs) (w ∷ ws) = goes_on (by_way W c w) (λ _. all_proved W 
 abbrev pub proved : World → Clauses → Plan → Judged Plan
 proved W clauses p =
     goes_on (coded (of_conditions p.conditions clauses)) (λ _.
-    goes_on (coded (ways W.functions clauses p.conditions)) (λ ws.
+    goes_on (coded (ways W clauses p.conditions)) (λ ws.
     goes_on (all_proved W p.conditions ws) (λ _. Ok p)))
 
 -- the plan of an event that passes all checks: its new names come first, then the event's own checks, then its conditions

@@ -12,7 +12,7 @@ ghost use Rattle.events.specs.Halts.{Reads};
 use crate::halt::Halt;
 use crate::names::is_among;
 use crate::own::WithOwn;
-use event_forms::symbol;
+use proof_texts::symbol;
 use lisp_data::{Code, Form, Symbol, Symbols};
 use std::alloc::Global;
 use term_forms::{Scope, is_variable_name, translate};

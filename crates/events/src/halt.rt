@@ -4,6 +4,7 @@ use crate::refusal::Refusal;
 use event_forms::EventError;
 use lisp_data::{Code, Detail, Symbol};
 use lists::{Memory, Text};
+use proof_texts::ProofError;
 use std::alloc::Global;
 use term_forms::TermError;
 
@@ -85,6 +86,21 @@ impl From<EventError> for Halt {
                 Halt::Refused(Refusal::Coded { code, detail })
             }
             EventError::Memory => Halt::Memory,
+        }
+    }
+}
+
+impl From<ProofError> for Halt {
+    ghost use Rattle.events.specs.Halts.{IsFromProof};
+
+    ghost from_gives = { λ t e. IsFromProof t e };
+
+    fn from(error: ProofError) -> Halt {
+        match error {
+            ProofError::Refused { code, detail } => {
+                Halt::Refused(Refusal::Coded { code, detail })
+            }
+            ProofError::Memory => Halt::Memory,
         }
     }
 }
