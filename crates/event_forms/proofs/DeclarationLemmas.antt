@@ -5,9 +5,9 @@ use Rattle.lisp_data.specs.Values.{Name}
 use Rattle.lisp_data.specs.FormView.{form_of}
 use Rattle.lisp_data.specs.declared.form.Form.{Form}
 use Rattle.term_forms.specs.Translation.{and_then}
-use Rattle.event_forms.specs.Lists.{items_of}
+use Rattle.proof_texts.specs.Items.{items_of}
 use Rattle.event_forms.specs.Declarations.{before_body, body_of, declare_list, any_early, declares_unbuilt}
-use Rattle.event_forms.proofs.ItemLemmas.{proper_at}
+use Rattle.proof_texts.proofs.ItemLemmas.{proper_at}
 
 -- the forms from a place on begin with the form there
 pub forms_from : (xs : List Form) (i : ℕ) (x : Form) → i < length xs → x ≡ get_or xs i x → map form_of (drop i xs) ≡ form_of x ∷ map form_of (drop (i + 1) xs)

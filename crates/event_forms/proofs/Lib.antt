@@ -1,4 +1,2 @@
-pub mod ItemLemmas
 pub mod DeclarationLemmas
 pub mod KeyLemmas
-pub mod ProofLemmas

@@ -4,7 +4,7 @@ use Rattle.std.specs.List.{list_all, list_any}
 use Rattle.lisp_data.specs.Values.{Name}
 use Rattle.lisp_data.specs.Datum.{Datum}
 use Rattle.term_forms.specs.Translation.{Outcome, and_then}
-use Rattle.event_forms.specs.Lists.{items_of, is_word, symbol_of, text_of}
+use Rattle.proof_texts.specs.Items.{items_of, is_word, symbol_of, text_of}
 use Rattle.event_forms.specs.Refused.{bad_part}
 use Rattle.event_forms.specs.Keys.{keys, has_unbuilt}
 use Rattle.event_forms.specs.declared.keys.Keyed.TheVariants.{Function}
@@ -48,7 +48,7 @@ body_of seen part (p ∷ ps) = and_then (before_body seen part) (λ seen. body_o
 abbrev pub is_early : Option (List Datum) → Bool
 is_early None = false
 is_early (Some []) = false
-is_early (Some (word ∷ parts)) = is_word (codes "XARGS") word && has_unbuilt Function true parts
+is_early (Some (word ∷ parts)) = is_word (codes "XARGS") word && has_unbuilt Function parts
 
 abbrev pub any_early : Option (List Datum) → Bool
 any_early None = false

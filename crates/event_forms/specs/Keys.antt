@@ -1,11 +1,12 @@
 -- Keys with their values. A key is a keyword, and its value stands behind it.
-use Rattle.std.specs.Prelude.{ℕ, Bool, true, false, ◌&&◌, ◌||◌, not, if◌then◌else◌, codes, List, [], ◌∷◌, ◌++◌, Option, Some, None, Ok}
+use Rattle.std.specs.Prelude.{ℕ, Bool, true, false, ◌||◌, not, if◌then◌else◌, codes, List, [], ◌∷◌, ◌++◌, Option, Some, None, Ok}
+use Rattle.std.specs.List.{list_any}
 use Rattle.lisp_data.specs.Values.{Name}
 use Rattle.lisp_data.specs.Datum.{Datum}
 use Rattle.term_forms.specs.Names.{begins_with}
 use Rattle.terms.specs.Worlds.{is_in}
 use Rattle.term_forms.specs.Translation.{Outcome, and_then}
-use Rattle.event_forms.specs.Lists.{is_word, symbol_of}
+use Rattle.proof_texts.specs.Items.{is_word, symbol_of}
 use Rattle.event_forms.specs.Refused.{bad_part, bad_key, unknown_key}
 use Rattle.event_forms.specs.declared.keys.Keyed.{Keyed}
 use Rattle.event_forms.specs.declared.keys.Keyed.TheVariants.{Function, Theorem, Book}
@@ -67,7 +68,12 @@ is_unbuilt Function k = is_word (codes ":MEASURE") k || (is_word (codes ":HOW") 
 is_unbuilt Theorem k = is_word (codes ":HOW") k || is_word (codes ":ASSUMING") k
 is_unbuilt Book k = false
 
--- one of them stands in a key's place; keys and values stand in turn
-abbrev pub has_unbuilt : Keyed → Bool → List Datum → Bool
-has_unbuilt kind in_place [] = false
-has_unbuilt kind in_place (k ∷ parts) = (in_place && is_unbuilt kind k) || has_unbuilt kind (not in_place) parts
+-- the forms in keys' places: keys and values stand in turn, a key first
+abbrev pub key_places : List Datum → List Datum
+key_places [] = []
+key_places (k ∷ []) = k ∷ []
+key_places (k ∷ v ∷ parts) = k ∷ key_places parts
+
+-- one of them stands in a key's place
+abbrev pub has_unbuilt : Keyed → List Datum → Bool
+has_unbuilt kind parts = list_any (is_unbuilt kind) (key_places parts)

@@ -4,7 +4,7 @@ use Rattle.lisp_data.specs.Values.{Name}
 use Rattle.lisp_data.specs.Datum.{Datum}
 use Rattle.terms.specs.Worlds.{is_in}
 use Rattle.term_forms.specs.Translation.{Outcome, and_then, map_outcome}
-use Rattle.event_forms.specs.Lists.{items_of, is_word, symbol_of, text_of}
+use Rattle.proof_texts.specs.Items.{items_of, is_word, symbol_of, text_of}
 use Rattle.event_forms.specs.Refused.{not_an_event, bad_part, unknown_book, or_refused}
 use Rattle.event_forms.specs.Keys.{keys, value_of, has_unbuilt}
 use Rattle.event_forms.specs.Declarations.{body_of, declares_unbuilt}
@@ -74,7 +74,7 @@ is_early_defun (f ∷ xs ∷ p ∷ ps) = declares_unbuilt p ps
 is_early_defun _ = false
 
 abbrev pub is_early_defthm : List Datum → Bool
-is_early_defthm (n ∷ formula ∷ parts) = has_unbuilt Theorem true parts
+is_early_defthm (n ∷ formula ∷ parts) = has_unbuilt Theorem parts
 is_early_defthm _ = false
 
 abbrev pub defun : List Datum → Outcome Event

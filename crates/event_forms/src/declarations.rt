@@ -4,17 +4,17 @@ ghost use Rattle.std.specs.Prelude.{◌≡◌, [], map, option_map, IfSome, IfOk
 ghost use Rattle.std.specs.List.{list_all, list_any};
 ghost use Rattle.std.specs.Option.{option_copied};
 ghost use Rattle.lisp_data.specs.FormView.{form_of, IsProper, AllProper};
-ghost use Rattle.event_forms.specs.Lists as lists;
+ghost use Rattle.proof_texts.specs.Items as lists;
 ghost use Rattle.event_forms.specs.Declarations as spec;
 ghost use Rattle.event_forms.specs.Refused.{Says};
 
 use crate::errors::EventError;
 use crate::keys::{Keyed, has_unbuilt, read_keys};
-use crate::parts::{is_word, items, symbol, text};
+use proof_texts::{is_word, items, symbol, text};
 use lisp_data::{Form, Symbols};
 use std::alloc::Global;
 
-#[tactic(auto, using(crate::proofs::ItemLemmas::proper_at))]
+#[tactic(auto, using(proof_texts::proofs::ItemLemmas::proper_at))]
 fn all_symbols(forms: &[Form]) -> bool
     requires { AllProper forms.now }
     ensures { result ≡ list_all spec.is_symbol (map form_of forms.now) }
@@ -67,7 +67,7 @@ fn declarations(part: &Form) -> Option<&[Form]>
 }
 
 /// The keys that were seen and those of declarations.
-#[tactic(auto, using(crate::proofs::ItemLemmas::proper_at))]
+#[tactic(auto, using(proof_texts::proofs::ItemLemmas::proper_at))]
 fn read_declarations(
     alloc: Global,
     mut seen: Symbols,
@@ -131,7 +131,7 @@ fn is_early(declaration: &Form) -> bool
     }
 }
 
-#[tactic(auto, using(crate::proofs::ItemLemmas::proper_at))]
+#[tactic(auto, using(proof_texts::proofs::ItemLemmas::proper_at))]
 fn any_early(declarations: &[Form]) -> bool
     requires { AllProper declarations.now }
     ensures { result ≡ list_any (λ d. spec.is_early (lists.items_of d)) (map form_of declarations.now) }

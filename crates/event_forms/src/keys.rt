@@ -4,12 +4,12 @@ ghost use Rattle.std.specs.Prelude.{◌≡◌, true, map, option_map, IfSome};
 ghost use Rattle.std.specs.Option.{option_copied};
 ghost use Rattle.lisp_data.specs.FormView.{form_of, IsProper, AllProper};
 ghost use Rattle.terms.specs.Worlds.{is_in};
-ghost use Rattle.event_forms.specs.Lists as lists;
+ghost use Rattle.proof_texts.specs.Items as lists;
 ghost use Rattle.event_forms.specs.Keys as spec;
 ghost use Rattle.event_forms.specs.Refused.{Says};
 
 use crate::errors::EventError;
-use crate::parts::{is_among, is_word, symbol};
+use proof_texts::{contains, is_among, is_word, symbol};
 use lisp_data::{Form, Symbol, Symbols};
 use std::alloc::Global;
 
@@ -76,17 +76,6 @@ fn is_keyword(name: &str) -> bool
         [first, ..] => b':' == *first,
         [] => false,
     }
-}
-
-fn contains(names: &Symbols, name: &Symbol) -> bool
-    ensures { result ≡ is_in names.now name.now }
-{
-    for other in names.as_slice() {
-        if other.same(name) {
-            return true;
-        }
-    }
-    false
 }
 
 /// A further key: a keyword, known, and not given yet.
@@ -175,17 +164,19 @@ pub(crate) fn value_of<'a>(key: &str, parts: &'a [Form]) -> Option<&'a Form>
 }
 
 /// Whether a key that isn't there yet stands in a key's place.
-#[tactic(auto, using(crate::proofs::ItemLemmas::proper_at))]
 pub(crate) fn has_unbuilt(kind: Keyed, parts: &[Form]) -> bool
     requires { AllProper parts.now }
-    ensures { result ≡ spec.has_unbuilt kind true (map form_of parts.now) }
+    ensures { result ≡ spec.has_unbuilt kind (map form_of parts.now) }
 {
-    let mut in_place = true;
-    for part in parts {
-        if in_place && kind.is_unbuilt(part) {
+    let mut rest = parts;
+    while let [key, _, behind @ ..] = rest {
+        if kind.is_unbuilt(key) {
             return true;
         }
-        in_place = !in_place;
+        rest = behind;
     }
-    false
+    match rest {
+        [key, ..] => kind.is_unbuilt(key),
+        [] => false,
+    }
 }

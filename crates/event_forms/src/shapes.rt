@@ -10,7 +10,7 @@ ghost use Rattle.event_forms.specs.ShapeView.{seen, HasProperParts};
 use crate::declarations::{body, declares_unbuilt};
 use crate::errors::EventError;
 use crate::keys::{Keyed, has_unbuilt, read_keys, value_of};
-use crate::parts::{is_among, is_word, items, symbol, text};
+use proof_texts::{is_among, is_word, items, symbol, text};
 use lisp_data::{Form, Symbol, Symbols};
 use std::alloc::Global;
 

@@ -3,7 +3,7 @@ use Rattle.std.specs.List.{list_any}
 use Rattle.lisp_data.specs.Datum.{Datum}
 use Rattle.lisp_data.specs.FormView.{form_of}
 use Rattle.event_forms.specs.Declarations.{is_early}
-use Rattle.event_forms.specs.Lists.{items_of}
+use Rattle.proof_texts.specs.Items.{items_of}
 use Rattle.event_forms.proofs.declarations.any_early.Given as goal
 
 abbrev pub invariant-loop-declaration : goal.invariant-loop-declaration

@@ -1,0 +1,5 @@
+pub mod ItemLemmas
+pub mod PartLemmas
+pub mod StepLemmas
+pub mod ReadLemmas
+pub mod PrintLemmas

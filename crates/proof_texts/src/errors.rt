@@ -1,0 +1,84 @@
+//! Why a text is no proof.
+
+use lisp_data::{Code, Detail, Memory, Symbol, SymbolError};
+use std::alloc::Global;
+use term_forms::TermError;
+
+/// Why a text is no proof (docs/PROOFS.md, "What is refused").
+#[derive(Drop)]
+pub enum ProofError {
+    /// The text is refused (docs/PROOFS.md, "What is refused").
+    Refused { code: Code, detail: Detail },
+    Memory,
+}
+
+impl ProofError {
+    ghost use Rattle.std.specs.Prelude.{codes};
+    ghost use Rattle.lisp_data.specs.declared.code.Code.TheVariants.{NotAnEvent, BadForm, UnknownName};
+    ghost use Rattle.lisp_data.specs.declared.detail.Detail.TheVariants.{Absent, Name};
+    ghost use Rattle.proof_texts.specs.Refused.{IsError};
+
+    /// The proof has a rule that isn't there yet.
+    pub(crate) fn not_built() -> ProofError
+        ensures { IsError NotAnEvent Absent result }
+    {
+        ProofError::Refused {
+            code: Code::NotAnEvent,
+            detail: Detail::Absent,
+        }
+    }
+
+    /// The text has another shape than a proof's.
+    pub(crate) fn bad_proof(alloc: Global) -> ProofError
+        ensures { IsError BadForm (Name (codes ":PROOF")) result }
+    {
+        match Symbol::new(alloc, ":PROOF") {
+            Ok(key) => ProofError::with_name(Code::BadForm, &key),
+            Err(SymbolError::BadText) => unreachable!(),
+            Err(SymbolError::Memory) => ProofError::Memory,
+        }
+    }
+
+    /// Nothing of this name is there.
+    pub(crate) fn unknown_name(name: &Symbol) -> ProofError
+        ensures { IsError UnknownName (Name name.now) result }
+    {
+        ProofError::with_name(Code::UnknownName, name)
+    }
+
+    fn with_name(code: Code, name: &Symbol) -> ProofError
+        ensures { IsError code (Name name.now) result }
+    {
+        match name.share() {
+            Ok(name) => ProofError::Refused {
+                code,
+                detail: Detail::Name(name),
+            },
+            Err(Memory) => ProofError::Memory,
+        }
+    }
+}
+
+impl From<Memory> for ProofError {
+    ghost use Rattle.std.specs.Prelude.{◌≡◌};
+    ghost use Rattle.proof_texts.specs.declared.errors.ProofError.TheVariants.{Memory as OutOfMemory};
+
+    ghost from_gives = { λ _ e. e ≡ OutOfMemory };
+
+    fn from(_error: Memory) -> ProofError {
+        ProofError::Memory
+    }
+}
+
+impl From<TermError> for ProofError {
+    ghost use Rattle.proof_texts.specs.ErrorView.{IsFrom};
+
+    ghost from_gives = { λ t e. IsFrom t e };
+
+    fn from(error: TermError) -> ProofError {
+        match error {
+            TermError::Refused { code, detail } => ProofError::Refused { code, detail },
+            TermError::Memory => ProofError::Memory,
+        }
+    }
+}
