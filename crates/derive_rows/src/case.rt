@@ -67,14 +67,32 @@ impl Case {
         }
     }
 
-    /// The case in which these columns stand in their places.
+    /// The case in which these columns stand in their places. Each has one.
     pub fn filled(&self, alloc: Global, columns: &[&str]) -> Result<Case> {
+        for place in 0..columns.len() {
+            let number = place.saturating_add(1);
+            if !self.has_column(alloc, number)? {
+                bail!("column {number} has no place");
+            }
+        }
         Ok(Case {
             words: filled(alloc, self.words.as_str(), columns)?,
             book: filled(alloc, self.book.as_str(), columns)?,
             report: filled(alloc, self.report.as_str(), columns)?,
             status: filled(alloc, self.status.as_str(), columns)?,
         })
+    }
+
+    /// Whether the column of this number stands in some part.
+    fn has_column(&self, alloc: Global, number: usize) -> Result<bool, AllocError> {
+        let column = format!(in alloc; "{{{number}}}")?;
+        let column = column.as_str();
+        Ok(
+            self.words.contains(column)
+                || self.book.contains(column)
+                || self.report.contains(column)
+                || self.status.contains(column),
+        )
     }
 }
 

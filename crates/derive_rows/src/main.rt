@@ -7,7 +7,7 @@ mod comparison;
 mod outcome;
 mod rows;
 
-use anyhow::{Context, Result};
+use anyhow::{Context, Result, bail};
 use std::process::ExitCode;
 use std::{env, fs};
 
@@ -30,6 +30,9 @@ fn run_files(rt: &HostRuntime) -> Result<u64> {
         let (rows, others) = run_file(rt, file.as_str())?;
         ran = ran.saturating_add(rows);
         differing = differing.saturating_add(others);
+    }
+    if ran == 0 {
+        bail!("no rows ran");
     }
     if differing == 0 {
         println!(rt; "{ran} rows ran, and none differs")?;

@@ -96,12 +96,19 @@ impl Reading {
     }
 
     fn take_row(&mut self, name: &str, block: &Block<'_>) -> Result<()> {
-        let row = Row {
-            name: String::from_str(self.alloc, name)?,
-            line: block.line,
-            case: case_of(self.alloc, block)?,
-        };
-        self.rows.push(row)?;
+        let name = String::from_str(self.alloc, name)?;
+        let case = case_of(self.alloc, block)?;
+        self.add_row(name, block.line, case)
+    }
+
+    /// No two rows of a file have one name.
+    fn add_row(&mut self, name: String, line: usize, case: Case) -> Result<()> {
+        for row in self.rows.iter() {
+            if row.name.as_str() == name.as_str() {
+                bail!("the row {name} stands there twice");
+            }
+        }
+        self.rows.push(Row { name, line, case })?;
         Ok(())
     }
 
@@ -141,11 +148,7 @@ impl Reading {
                 .context(format_args!("line {number}"))?;
             let count = place.saturating_add(1);
             let name = format!(in self.alloc; "{name} {count}")?;
-            self.rows.push(Row {
-                name,
-                line: *number,
-                case,
-            })?;
+            self.add_row(name, *number, case)?;
         }
         Ok(())
     }

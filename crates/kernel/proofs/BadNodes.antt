@@ -32,7 +32,7 @@ then_none (Some x) b k h = none_then b (k x) h
 mutual
   pub bad_tree : (W : World) (before : ℕ) (p : ProofTree) → IsSome (first_bad W before p) ↔ (concludes W p ≡ None)
   bad_tree W before (By s ps) =
-      let r = own (concludes W (By s ps)) (bad_at W (before + steps_in ps + 1) s) in (
+      let r = own (concludes W (By s ps)) (bad_at W (before + steps_in ps + 1) s (all_concluded W ps)) in (
         either (first_bad_in W before ps) _ (λ h. none_then (all_concluded W ps) (conclude W s) (bad_within W before ps h)) r.0,
         λ h. last (first_bad_in W before ps) _ (r.1 h),
       )

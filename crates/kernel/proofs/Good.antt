@@ -1,5 +1,5 @@
 -- What each rule concludes is well formed and follows under each interpretation, where its premises are and do.
-use Rattle.std.proofs.Common.{◌≡◌, ◌&&◌, ℕ, zero, suc, slice_get, true, refl, List, [], ◌∷◌, length, map, codes, Some, sym, ap, ◌∙◌, subst}
+use Rattle.std.proofs.Common.{◌≡◌, ◌&&◌, not, is_some, ℕ, zero, suc, slice_get, true, refl, List, [], ◌∷◌, length, map, codes, Some, sym, ap, ◌∙◌, subst}
 use Rattle.std.proofs.lemmas.Bool.{and_parts}
 use Rattle.std.specs.List.{list_all}
 use Rattle.lisp_data.specs.Values.{Name, Val}
@@ -27,7 +27,12 @@ use Rattle.kernel.specs.Fitting.{fits, pairs_fit}
 use Rattle.kernel.specs.Sequents.{without, equation, negation, implication, conditional, negated_of, sides_of, of_goal, with_goal, joined}
 use Rattle.kernel.specs.Equations.{replaced, body_at, called, if_true, if_false, reflexive, unfolded}
 use Rattle.kernel.specs.Logic.{substituted, by_cases, cut, weakened, contradicted, implied, detached, is_empty, instantiated, discharged, hypothesis}
+use Rattle.ring_laws.specs.Expressions.{is_arithmetic}
+use Rattle.ring_laws.specs.Limits.{excess_of}
+use Rattle.ring_laws.specs.Polynomials.{same_polynomial}
+use Rattle.ring_laws.proofs.Soundness.{ring_law, same_decides}
 use Rattle.kernel.specs.Axioms.{axiom_at, axiom_instance}
+use Rattle.kernel.specs.Ring.{ringed}
 use Rattle.kernel.specs.Facts.{item, fact_of}
 use Rattle.kernel.proofs.AxiomTruths.{axiom_truth}
 use Rattle.kernel.proofs.Inversions.{then_some, map_some, if_some, fits_true, each_fits, pair_fits, sides_of_is, negated_of_is}
@@ -338,6 +343,18 @@ module _ (W : World) (sound : Sound W) where
       let i = then_some (find_iso W.isos n) _ s e in
       let h = at_item (λ s. FitsSequent W.functions s × Holds W.functions s) (iso_conditions i.0) k s (found_iso W sound n i.0 i.1) i.2 in
       good_fact s h.0 h.1
+
+  pub good_ring : (a b : Tm) (s : Sequent) → ringed W.functions a b ≡ Some s → Good s
+  good_ring a b s e =
+      let fit = if_some (fits W.functions a && fits W.functions b) _ s e in
+      let f = and_parts (fits W.functions a) (fits W.functions b) fit.0 in
+      let test = if_some (is_arithmetic a && is_arithmetic b && not (is_some (excess_of a b)) && same_polynomial a b) _ s fit.1 in
+      let h = and_parts (is_arithmetic a && is_arithmetic b && not (is_some (excess_of a b))) (same_polynomial a b) test.0 in
+      let r = and_parts (is_arithmetic a && is_arithmetic b) (not (is_some (excess_of a b))) h.0 in
+      let q = and_parts (is_arithmetic a) (is_arithmetic b) r.0 in
+      let same = same_decides a b in
+      let law = ring_law W sound a b (fits_true W.functions a f.0) (fits_true W.functions b f.1) q.0 q.1 (same.0 h.1) in
+      subst Good (some_is test.1) (good_fact (of_goal (equation a b)) law.0 law.1)
 
   -- what follows under an interpretation holds under it
   pub holds_by : (I : Interp) (tot : TotalFor W.functions I) (s : Sequent) → FitsSequent W.functions s → Follows (Of I tot) s → Each (λ u. (env : Name → Val) → IsTrueAt W.functions I env u) s.universals → (env : Name → Val) → Each (IsTrueAt W.functions I env) s.hyps → IsTrueAt W.functions I env s.goal

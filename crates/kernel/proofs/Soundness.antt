@@ -54,7 +54,7 @@ module _ (W : World) (sound : Sound W) where
   rule_good (Weaken hs us) ps t g = one_gives Good _ ps t g (λ p. good.good_weaken W sound hs us p t)
   rule_good (Contradict a) ps t g = two_gives Good _ ps t g (λ p q. good.good_contradict W sound a p q t)
   rule_good (Axiom k s) ps t g = none_gives Good _ ps t (good.good_axiom_rule W sound k s t)
-  rule_good (Ring a b) ps t g = λ e. absurd (cc)
+  rule_good (Ring a b) ps t g = none_gives Good _ ps t (good.good_ring W sound a b t)
   rule_good (ImpliesIn a) ps t g = one_gives Good _ ps t g (λ p. good.good_implies_in W sound a p t)
   rule_good ImpliesOut ps t g = two_gives Good _ ps t g (λ p q. good.good_implies_out W sound p q t)
   rule_good (Universal u s) ps t g = none_gives Good _ ps t (good.good_universal W sound u s t)

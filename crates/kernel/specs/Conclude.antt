@@ -1,5 +1,5 @@
 -- What each step concludes from the sequents of its subproofs.
-use Rattle.std.specs.Prelude.{List, [], ◌∷◌, Option, None}
+use Rattle.std.specs.Prelude.{List, [], ◌∷◌, Option, Some, None}
 use Rattle.lisp_data.specs.declared.code.Code.{Code}
 use Rattle.lisp_data.specs.declared.code.Code.TheVariants.{ProofWrong}
 use Rattle.terms.specs.Worlds.{World}
@@ -10,6 +10,7 @@ use Rattle.kernel.specs.Equations.{reflexive, replaced, unfolded, if_true, if_fa
 use Rattle.kernel.specs.Logic.{hypothesis, substituted, by_cases, cut, weakened, contradicted, implied, detached, instantiated, discharged}
 use Rattle.kernel.specs.Axioms.{axiom_instance}
 use Rattle.kernel.specs.Facts.{fact_of}
+use Rattle.kernel.specs.Ring.{ringed, ring_code}
 
 -- how many subproofs a rule takes
 abbrev pub from_none : Option Sequent → List Sequent → Option Sequent
@@ -46,7 +47,7 @@ conclude W Cut = from_two cut
 conclude W (Weaken hs us) = from_one (weakened W.functions hs us)
 conclude W (Contradict g) = from_two (contradicted W.functions g)
 conclude W (Axiom k s) = from_none (axiom_instance W.functions k s)
-conclude W (Ring a b) = not_built
+conclude W (Ring a b) = from_none (ringed W.functions a b)
 conclude W (ImpliesIn p) = from_one (implied W.functions p)
 conclude W ImpliesOut = from_two detached
 conclude W (Universal u s) = from_none (instantiated W.functions u s)
@@ -55,6 +56,17 @@ conclude W (Theorem fact) = from_none (fact_of W fact)
 conclude W (Instance fact pairs) = not_built
 conclude W (Induct m cases) = not_built
 
--- the code of a step that concludes nothing: that of a limit, where its rule computes and meets one
-abbrev pub code_of : World → Step → Code
-code_of W s = ProofWrong
+-- the code of a step without subproofs that concludes nothing: that of a limit, where its rule computes and meets one
+abbrev pub code_alone : World → Step → Code
+code_alone W (Ring a b) = ring_code a b
+code_alone W _ = ProofWrong
+
+-- the code of a step that concludes nothing from these sequents
+abbrev pub code_of : World → Step → List Sequent → Code
+code_of W s [] = code_alone W s
+code_of W s (p ∷ ps) = ProofWrong
+
+-- the same where the subproofs may conclude nothing themselves
+abbrev pub code_from : World → Step → Option (List Sequent) → Code
+code_from W s None = ProofWrong
+code_from W s (Some ps) = code_of W s ps

@@ -9,7 +9,7 @@ use Rattle.proof_objects.specs.StepRules.{rule_of}
 use Rattle.proof_objects.specs.ProofTrees.{ProofTree, By, Trees, NoMore, Also, steps, steps_in}
 use Rattle.proof_objects.specs.declared.rule.Rule.{Rule}
 use Rattle.proof_objects.specs.declared.step.Step.{Step}
-use Rattle.kernel.specs.Conclude.{conclude, code_of}
+use Rattle.kernel.specs.Conclude.{conclude, code_from}
 
 -- the sequent that the last step concludes from what the subproofs do, or nothing
 abbrev mutual
@@ -26,8 +26,8 @@ pub record BadNode : Type 0 where
   pub rule : Rule
   pub code : Code
 
-abbrev pub bad_at : World → ℕ → Step → BadNode
-bad_at W node s = record { node = node; rule = rule_of s; code = code_of W s }
+abbrev pub bad_at : World → ℕ → Step → Option (List Sequent) → BadNode
+bad_at W node s ps = record { node = node; rule = rule_of s; code = code_from W s ps }
 
 -- the node, where it concludes nothing
 abbrev pub bad_if_none : Option Sequent → BadNode → Option BadNode
@@ -38,7 +38,7 @@ bad_if_none o bad = if is_some o then None else Some bad
 abbrev mutual
   pub first_bad : World → ℕ → ProofTree → Option BadNode
   first_bad W before (By s ps) =
-      option_or (first_bad_in W before ps) (bad_if_none (concludes W (By s ps)) (bad_at W (before + steps_in ps + 1) s))
+      option_or (first_bad_in W before ps) (bad_if_none (concludes W (By s ps)) (bad_at W (before + steps_in ps + 1) s (all_concluded W ps)))
 
   pub first_bad_in : World → ℕ → Trees → Option BadNode
   first_bad_in W before NoMore = None

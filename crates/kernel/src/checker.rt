@@ -82,8 +82,8 @@ fn check_all(
 fn last_step(alloc: Global, world: &World, proof: &Proof, premises: &[Proved]) -> Ruled
     requires { all_concluded world.now (subproofs_of proof.now) ≡ Some (sequents_of premises.now) }
     ensures ok { IfOk result (λ it. IsProvedBy it world.now proof.now) }
-    ensures refused { IsErrOf result RuleError.Refused → (concludes world.now proof.now ≡ None) × (code_of world.now (step_of proof.now) ≡ WrongProof) }
-    ensures limits { IfLimit result (λ code. (concludes world.now proof.now ≡ None) × (code_of world.now (step_of proof.now) ≡ code) × (code ≢ WrongProof)) }
+    ensures refused { IsErrOf result RuleError.Refused → (concludes world.now proof.now ≡ None) × (code_of world.now (step_of proof.now) (sequents_of premises.now) ≡ WrongProof) }
+    ensures limits { IfLimit result (λ code. (concludes world.now proof.now ≡ None) × (code_of world.now (step_of proof.now) (sequents_of premises.now) ≡ code) × (code ≢ WrongProof)) }
 {
     let sequent = conclude(alloc, world, &proof.node().step, premises)?;
     let proved = Proved::concluded(alloc, world, proof.share()?, sequent)?;

@@ -1,7 +1,8 @@
 //! What each step concludes from its premises: an arm for each rule.
 
 ghost use Rattle.std.specs.Prelude.{[], ◌∷◌};
-ghost use Rattle.kernel.specs.Conclude.{conclude, code_of};
+ghost use Rattle.kernel.specs.Conclude.{conclude, code_alone, code_of};
+ghost use Rattle.lisp_data.specs.declared.code.Code.TheVariants.{ProofWrong as WrongProof};
 ghost use Rattle.kernel.specs.Conclusion.{sequents_of};
 ghost use Rattle.kernel.specs.Answers.{SaysStep};
 
@@ -14,6 +15,7 @@ use crate::logic::{
     substituted, weakened,
 };
 use crate::proved::Proved;
+use crate::ring::ringed;
 use proof_objects::Step;
 use std::alloc::Global;
 use terms::Sequent;
@@ -27,7 +29,7 @@ pub(crate) fn conclude(
     step: &Step,
     premises: &[Proved],
 ) -> Result<Sequent, RuleError>
-    ensures { SaysStep (conclude world.now step.now (sequents_of premises.now)) (code_of world.now step.now) result }
+    ensures { SaysStep (conclude world.now step.now (sequents_of premises.now)) (code_of world.now step.now (sequents_of premises.now)) result }
 {
     match premises {
         [] => from_none(alloc, world, step),
@@ -38,13 +40,14 @@ pub(crate) fn conclude(
 }
 
 fn from_none(alloc: Global, world: &World, step: &Step) -> Result<Sequent, RuleError>
-    ensures { SaysStep (conclude world.now step.now []) (code_of world.now step.now) result }
+    ensures { SaysStep (conclude world.now step.now []) (code_alone world.now step.now) result }
 {
     match step {
         Step::Hyp(p) => hypothesis(alloc, world, p),
         Step::Refl(a) => reflexive(alloc, world, a),
         Step::Unfold(call) => unfolded(alloc, world, call),
         Step::Axiom(number, s) => axiom_instance(alloc, world, *number, s),
+        Step::Ring(a, b) => ringed(alloc, world, a, b),
         Step::Universal(u, s) => instantiated(alloc, world, u, s),
         Step::Theorem(fact) => fact_of(alloc, world, fact),
         _ => Err(RuleError::Refused),
@@ -52,7 +55,7 @@ fn from_none(alloc: Global, world: &World, step: &Step) -> Result<Sequent, RuleE
 }
 
 fn from_one(alloc: Global, world: &World, step: &Step, p: &Sequent) -> Result<Sequent, RuleError>
-    ensures { SaysStep (conclude world.now step.now (p.now ∷ [])) (code_of world.now step.now) result }
+    ensures { SaysStep (conclude world.now step.now (p.now ∷ [])) WrongProof result }
 {
     match step {
         Step::Substitute(s) => substituted(alloc, world, p, s),
@@ -71,7 +74,7 @@ fn from_two(
     p: &Sequent,
     q: &Sequent,
 ) -> Result<Sequent, RuleError>
-    ensures { SaysStep (conclude world.now step.now (p.now ∷ q.now ∷ [])) (code_of world.now step.now) result }
+    ensures { SaysStep (conclude world.now step.now (p.now ∷ q.now ∷ [])) WrongProof result }
 {
     match step {
         Step::Replace(path) => replaced(alloc, p, q, path),

@@ -6,6 +6,8 @@ ghost use Rattle.proof_objects.specs.ProofTrees.{By, trees};
 ghost use Rattle.kernel.specs.Concludes.{concludes, all_concluded};
 ghost use Rattle.kernel.specs.Conclude.{code_of};
 ghost use Rattle.kernel.specs.Conclusion.{IsProvedBy, alone, after, after_both, proofs_of, sequents_of, AllIn};
+ghost use Rattle.kernel.specs.Later.{IsLater};
+ghost use Rattle.kernel.specs.Ring.{ring_code};
 ghost use Rattle.kernel.specs.Answers.{IfLimit, IsWithinLimits};
 
 use crate::axioms::axiom_instance;
@@ -13,11 +15,12 @@ use crate::conclude::conclude;
 use crate::equations::{if_false, if_true, reflexive, replaced, unfolded};
 use crate::errors::RuleError;
 use crate::facts::{fact_of, shared};
-use crate::laws::rules_are_sound;
+use crate::laws::{proofs_stay, rules_are_sound};
 use crate::logic::{
     by_cases, contradicted, cut, detached, discharged, hypothesis, implied, instantiated,
     substituted, weakened,
 };
+use crate::ring::ringed;
 use lisp_data::{Memory, Seq, Share};
 use proof_objects::{Proof, Step};
 use std::alloc::Global;
@@ -67,7 +70,7 @@ impl Proved {
         requires { AllIn world.now premises.now }
         ensures ok { IfOk result (λ it. IsProvedBy it world.now (By step (trees (proofs_of premises.now)))) }
         ensures refused { IsErrOf result RuleError.Refused → concludes world.now (By step (trees (proofs_of premises.now))) ≡ None }
-        ensures limits { IfLimit result (λ code. (concludes world.now (By step (trees (proofs_of premises.now))) ≡ None) × (code_of world.now step ≡ code)) }
+        ensures limits { IfLimit result (λ code. (concludes world.now (By step (trees (proofs_of premises.now))) ≡ None) × (code_of world.now step (sequents_of premises.now) ≡ code)) }
     {
         all_conclude(world, premises);
         let sequent = conclude(alloc, world, &step, premises)?;
@@ -223,6 +226,18 @@ impl Proved {
         Ok(proved)
     }
 
+    /// Ring: `(equal a b)` for arithmetic terms that are the same polynomial.
+    pub fn ring(alloc: Global, world: &World, a: &Term, b: &Term) -> Ruled
+        ensures ok { IfOk result (λ it. IsProvedBy it world.now (alone (Step.Ring a.now b.now))) }
+        ensures refused { IsErrOf result RuleError.Refused → concludes world.now (alone (Step.Ring a.now b.now)) ≡ None }
+        ensures limits { IfLimit result (λ code. (concludes world.now (alone (Step.Ring a.now b.now)) ≡ None) × (code ≡ ring_code a.now b.now)) }
+    {
+        let sequent = ringed(alloc, world, a, b)?;
+        let step = Step::Ring(a.share()?, b.share()?);
+        let proved = Proved::of(alloc, world, step, Seq::new(alloc), sequent)?;
+        Ok(proved)
+    }
+
     /// Implies in: `(implies h g)` for the goal g of `p`, without h among the hypotheses.
     pub fn implies_in(alloc: Global, h: &Term, p: &Proved) -> Ruled
         ensures ok { IfOk result (λ it. IsProvedBy it p.now.world (after (Step.ImpliesIn h.now) p.now.proof)) }
@@ -333,6 +348,25 @@ impl Proved {
         ensures { result.now ≡ self.now.proof }
     {
         &self.proof
+    }
+
+    /// The same sequent and proof in a later world.
+    pub fn later(&self, world: &World) -> Result<Proved, Memory>
+        requires { IsLater self.now.world world.now }
+        ensures world { IfOk result (λ it. it.world ≡ world.now) }
+        ensures proof { IfOk result (λ it. it.proof ≡ self.now.proof) }
+        ensures sequent { IfOk result (λ it. it.sequent ≡ self.now.sequent) }
+    {
+        world.soundness();
+        proofs_stay();
+        let world = world.share()?;
+        let proof = self.proof.share()?;
+        let sequent = self.sequent.clone()?;
+        Ok(Proved {
+            world,
+            proof,
+            sequent,
+        })
     }
 
     /// The same sequent and proof, with one more owner.

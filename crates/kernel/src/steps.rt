@@ -2,7 +2,7 @@
 
 ghost use Rattle.std.specs.Prelude.{◌≡◌, IfOk, IfSome, IsErrOf, None, Some};
 ghost use Rattle.std.specs.Option.{option_copied, option_map};
-ghost use Rattle.kernel.specs.Conclude.{code_of};
+ghost use Rattle.kernel.specs.Conclude.{code_from};
 ghost use Rattle.kernel.specs.Conclusion.{sequents_of, AllIn};
 ghost use Rattle.kernel.specs.Facts.{item};
 ghost use Rattle.kernel.specs.StepLists.{items, line_concludes};
@@ -21,7 +21,7 @@ pub fn next_step(alloc: Global, world: &World, done: &[Proved], step: Step, from
     ensures world { IfOk result (λ it. it.world ≡ world.now) }
     ensures ok { IfOk result (λ it. line_concludes world.now (sequents_of done.now) step from.now ≡ Some it.sequent) }
     ensures refused { IsErrOf result RuleError.Refused → line_concludes world.now (sequents_of done.now) step from.now ≡ None }
-    ensures limits { IfLimit result (λ code. (line_concludes world.now (sequents_of done.now) step from.now ≡ None) × (code_of world.now step ≡ code)) }
+    ensures limits { IfLimit result (λ code. (line_concludes world.now (sequents_of done.now) step from.now ≡ None) × (code_from world.now step (items (sequents_of done.now) from.now) ≡ code)) }
 {
     let Some(premises) = picked(alloc, world, done, from)? else {
         return Err(RuleError::Refused);

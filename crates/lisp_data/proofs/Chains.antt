@@ -4,7 +4,7 @@ use native.Mathlib.Numerals.{unary_clauses}
 use Rattle.std.proofs.Common.{◌≡◌, ◌+◌, ◌<◌, ◌++◌, zero, suc, length, get_or, take, arith, Option, Some, None, ℕ, ℤ, List, [], ◌∷◌, map, refl, ap, sym, ◌∙◌, Global}
 use Rattle.std.specs.declared.rc.Rc.{Rc}
 use Rattle.lisp_data.specs.Datum.{Datum, IntForm, SymForm, TextForm, PairForm, nil_form, chain}
-use Rattle.lisp_data.specs.FormView.{form_of, row_chain, held_end, forms_of}
+use Rattle.lisp_data.specs.view.FormView.{form_of, row_chain, held_end, forms_of}
 use Rattle.lisp_data.specs.declared.form.Forms.{Forms}
 use Rattle.lisp_data.specs.declared.form.Form.{Form, Int, Sym, Text, List as Listed, List', Row_of-Form, end_of-Form, more_of-Form, items-the_row-Form, items_hidden-the_row-Form-0}
 

@@ -5,7 +5,7 @@ use denote.Ref.{Bor}
 use Rattle.std.proofs.lemmas.List.{length-map, length-append}
 use Rattle.std.specs.declared.rc.Rc.{Rc}
 use Rattle.lisp_data.specs.Datum.{Datum, PairForm, chain}
-use Rattle.lisp_data.specs.FormView.{form_of, forms_of, end_of, EndIsProper, IsEnd, IsProper, HasItem, RowIsProper, HasEnd, AllProper, AreProper}
+use Rattle.lisp_data.specs.view.FormView.{form_of, forms_of, end_of, EndIsProper, IsEnd, IsProper, HasItem, RowIsProper, HasEnd, AllProper, AreProper}
 use Rattle.lisp_data.specs.declared.form.Forms.{Forms}
 use Rattle.lisp_data.specs.declared.form.Form.{Form, Int, Sym, Text, List as Listed, List', Row_of-Form, end_of-Form, more_of-Form, items-the_row-Form, items_hidden-the_row-Form-0}
 use Rattle.lisp_data.proofs.Chains.{row_of, form_of-int, form_of-sym, form_of-text, form_of-list, form_of-dotted}

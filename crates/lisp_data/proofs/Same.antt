@@ -6,7 +6,7 @@ use Rattle.std.proofs.lemmas.Bool.Decides.{nat_tests}
 use Rattle.std.proofs.lemmas.List.{length-map}
 use Rattle.std.specs.declared.rc.Rc.{Rc}
 use Rattle.lisp_data.specs.Datum.{Datum, IntForm, SymForm, TextForm, PairForm, nil_form, chain}
-use Rattle.lisp_data.specs.FormView.{form_of, forms_of, end_of, EndIsProper, IsEnd, IsProper, AllProper}
+use Rattle.lisp_data.specs.view.FormView.{form_of, forms_of, end_of, EndIsProper, IsEnd, IsProper, AllProper}
 use Rattle.lisp_data.specs.declared.form.Forms.{Forms}
 use Rattle.lisp_data.specs.declared.form.Form.{Form, Int, Sym, Text, List as Listed, List'}
 use Rattle.lisp_data.proofs.Chains.{form_of-int, form_of-sym, form_of-text, form_of-list, form_of-dotted}

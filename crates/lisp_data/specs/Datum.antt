@@ -2,7 +2,7 @@
 use Rattle.std.specs.Prelude.{◌≡◌, ◌+◌, ℕ, zero, suc, ℤ, pos, negsuc, max, List, [], ◌∷◌, refl}
 use Rattle.std.proofs.Common.{sym, ap, ◌∙◌}
 use base.Stored.{Gv, gnil, gnum, gcons, num, Coded}
-use Rattle.lisp_data.specs.Codes.{code_nats, nats_of, nats_of-code}
+use Rattle.lisp_data.specs.view.Codes.{code_nats, nats_of, nats_of-code}
 
 -- A list of forms is a chain of pairs, which ends with the symbol NIL or with the form after the point.
 pub data Datum : Type 0 where

@@ -3,7 +3,7 @@ use Rattle.std.specs.Prelude.{◌≡◌, ◌+◌, ◌≤◌, ℕ, zero, suc, ℤ
 use Rattle.std.specs.Ordering.{int_eq}
 use Rattle.std.proofs.Common.{sym, ap, ◌∙◌}
 use base.Stored.{Gv, gnil, gnum, gcons, num, Coded}
-use Rattle.lisp_data.specs.Codes.{code_nats, nats_of, nats_of-code}
+use Rattle.lisp_data.specs.view.Codes.{code_nats, nats_of, nats_of-code}
 
 -- the text of a symbol, as a list of bytes
 abbrev pub Name : Type 0

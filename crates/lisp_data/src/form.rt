@@ -3,7 +3,7 @@
 ghost use Rattle.std.specs.Prelude.{◌≡◌, [], ◌∷◌, ◌++◌, ◌<◌, length, map, slice_get, IfOk, IfSome, IfNone, OnOk, OnErr, OnSome, IsTrue};
 ghost use Rattle.std.specs.Option.{option_map, option_copied};
 ghost use Rattle.lisp_data.specs.Datum.{IntForm, SymForm, TextForm, PairForm, nil_form, chain};
-ghost use Rattle.lisp_data.specs.FormView.{form_of, forms_of, items_of, end_of, IsEnd, IsProper, AllProper, AreProper, EndIsProper};
+ghost use Rattle.lisp_data.specs.view.FormView.{form_of, forms_of, items_of, end_of, IsEnd, IsProper, AllProper, AreProper, EndIsProper};
 
 use crate::symbol::Symbol;
 use lists::{Bytes, Memory};

@@ -3,7 +3,7 @@
 ghost use Rattle.std.specs.Prelude.{◌≡◌, ◌↔◌, ◌≤◌, IsTrue, IfOk};
 ghost use Rattle.std.specs.Option.{option_map, option_copied};
 ghost use Rattle.lisp_data.specs.Values.{Val, path, pairs, car_of, cdr_of, same_val, IsSmall};
-ghost use Rattle.lisp_data.specs.ValueView.{val_of, SaysPair};
+ghost use Rattle.lisp_data.specs.view.ValueView.{val_of, SaysPair};
 
 use crate::symbol::Symbol;
 use lists::Memory;
@@ -38,7 +38,7 @@ impl Model for PairNode {
 
     ghost coded = { coded× val_code val_code };
 
-    ghost use Rattle.lisp_data.specs.ValueView.{val_of, IsCounted, depth};
+    ghost use Rattle.lisp_data.specs.view.ValueView.{val_of, IsCounted, depth};
 
     ghost view = { λ a. (val_of a.car, val_of a.cdr) };
 
@@ -46,7 +46,7 @@ impl Model for PairNode {
 
     ghost size = { λ p. depth p.0 p.1 };
 
-    ghost use Rattle.lisp_data.specs.ValueFalls.{parts_below};
+    ghost use Rattle.lisp_data.specs.view.ValueFalls.{parts_below};
 
     ghost size_decreases = { λ a h. parts_below a };
 }

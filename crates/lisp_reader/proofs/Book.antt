@@ -4,8 +4,8 @@ use Rattle.std.proofs.lemmas.List.{drop-drop}
 use Rattle.std.proofs.lemmas.Bool.Decides.{nat_tests}
 use Rattle.lisp_data.specs.Datum.{Datum}
 use Rattle.lisp_reader.specs.Spans.{front, gaps_from, gaps, behind}
-use Rattle.lisp_reader.specs.TokenView.{seen, IsWithin}
-use Rattle.lisp_reader.specs.BookSteps.{SaysStep}
+use Rattle.lisp_reader.specs.view.TokenView.{seen, IsWithin}
+use Rattle.lisp_reader.specs.view.BookSteps.{SaysStep}
 use Rattle.lisp_reader.specs.declared.read.ReadError.{ReadError}
 use Rattle.lisp_reader.specs.declared.read.ReadError.TheVariants.{Refused}
 use Rattle.lisp_reader.specs.declared.token.Token.TheVariants as tokens

@@ -6,10 +6,10 @@ use Rattle.lisp_data.specs.Datum.{Datum, PairForm, nil_form, chain}
 use Rattle.lisp_data.specs.Atoms as atoms
 use Rattle.lisp_data.specs.Atoms.{Leaf}
 use Rattle.lisp_reader.specs.Spans.{front, gaps_from, gaps}
-use Rattle.lisp_reader.specs.TokenView.{seen}
-use Rattle.lisp_reader.specs.Says.{is_point, SaysRead, SaysPlace}
+use Rattle.lisp_reader.specs.view.TokenView.{seen}
+use Rattle.lisp_reader.specs.view.Says.{is_point, SaysRead, SaysPlace}
 use Rattle.lisp_reader.specs.Grammar.{Read, Got, Bad, shift, mapped, and_then, Kind, Closes, Points, Item, by_kind, at_end, leaf_kind, kind_of, kind, last_by, last, closing, items, form}
-use Rattle.lisp_reader.specs.Closes.{close, closed}
+use Rattle.lisp_reader.specs.view.Closes.{close, closed}
 use Rattle.lisp_reader.specs.declared.read.ReadError.{ReadError}
 use Rattle.lisp_reader.specs.declared.read.ReadError.TheVariants as errors
 use Rattle.lisp_reader.specs.declared.token.Token.{Token}

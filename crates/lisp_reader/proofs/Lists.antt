@@ -4,10 +4,10 @@ use Rattle.lisp_data.specs.Datum.{Datum, nil_form}
 use Rattle.lisp_data.specs.Atoms as atoms
 use Rattle.lisp_data.specs.Atoms.{Leaf, is_odd}
 use Rattle.lisp_reader.specs.Spans.{Front, Nothing, Gap, EndlessGap, Open, Close, Quote, Text, EndlessText, Atom, Stray, front, gaps, behind}
-use Rattle.lisp_reader.specs.TokenView.{seen}
-use Rattle.lisp_reader.specs.Says.{SaysPlace}
+use Rattle.lisp_reader.specs.view.TokenView.{seen}
+use Rattle.lisp_reader.specs.view.Says.{SaysPlace}
 use Rattle.lisp_reader.specs.Grammar.{Read, Got, Bad, shift, mapped, at_end, in_text, leaf_at, leaf_fault, closing_by, closing}
-use Rattle.lisp_reader.specs.Closes.{close, closed}
+use Rattle.lisp_reader.specs.view.Closes.{close, closed}
 use Rattle.lisp_reader.specs.declared.read.ReadError.{ReadError}
 use Rattle.lisp_reader.specs.declared.token.Token.{Token}
 use Rattle.lisp_reader.specs.declared.token.Token.TheVariants as tokens

@@ -1,16 +1,21 @@
 -- The grammar and the relation agree.
-use Rattle.std.proofs.Common.{◌≡◌, ℕ, zero, suc, ◌+◌, ◌-◌, ◌<◌, Bool, true, false, cond, ◌&&◌, nat_eq, List, [], ◌∷◌, length, take, drop, map, None, refl, ap, sym, subst, ◌∙◌, arith}
+use Rattle.std.proofs.Common.{◌≡◌, ℕ, zero, suc, ◌+◌, ◌-◌, ◌<◌, Bool, true, false, cond, ◌&&◌, nat_eq, nat_lt, ◌≤◌, length-drop, Option, Some, List, [], ◌∷◌, length, take, drop, None, refl, ap, sym, subst, ◌∙◌, arith}
 use Rattle.std.proofs.lemmas.List.{drop-drop}
+use Rattle.std.proofs.lemmas.List.Sums.{prefix_len-le-length}
+use Rattle.std.specs.Prelude.{IfSome}
+use Rattle.lisp_reader.specs.Spans as s
+use Rattle.lisp_reader.specs.Spans.{later}
+use Rattle.lisp_data.specs.Atoms.{in_atom}
 use Rattle.lisp_data.specs.Datum.{Datum, PairForm, nil_form}
 use Rattle.lisp_data.specs.Atoms.{Leaf, Integer, Named, Point, Wrong, is_odd, leaf}
 use Rattle.lisp_data.specs.declared.code.Code.TheVariants.{UnclosedList, BadDot, BookTooLong}
 use Rattle.lisp_reader.specs.Spans.{Front, Nothing, Gap, EndlessGap, Open, Close, Quote, Text, EndlessText, Atom, Stray, front, gaps, behind, gaps_from}
-use Rattle.lisp_reader.specs.Grammar.{Read, Got, Bad, shift, mapped, and_then, quote_form, Kind, Closes, Points, Item, by_kind, leaf_read, leaf_kind, leaf_fault, one_by, kind_of, kind, closing_by, closing, last_by, last, items, form, begins_form, next_form, book_and, before, book}
+use Rattle.lisp_reader.specs.Grammar.{Read, Got, Bad, shift, mapped, and_then, quote_form, Kind, Closes, Points, Item, by_kind, leaf_read, leaf_kind, leaf_fault, one_by, kind_of, kind, closing_by, closing, last_by, last, items, form, begins_form, next_form, book_and, before, book, parse, book_of}
 use Rattle.lisp_reader.specs.Relation.{IsForm, integer, symbol, string, quoted, list, IsItems, end, item, last as last_item, IsBook, next, GrammarIsRelation}
 use Rattle.lisp_reader.specs.Relation as relation
 use Rattle.lisp_reader.specs.Answers.{Answers}
 use Rattle.lisp_reader.proofs.Book.{book-and, book-nothing}
-use Rattle.lisp_reader.proofs.Ends.{IsBad, none_bad}
+use Rattle.lisp_reader.proofs.Ends.{IsBad, none_bad, goes_on}
 use Rattle.std.proofs.lemmas.Bool.Decides.{nat_tests}
 use Rattle.lisp_reader.proofs.Steps.{list_in, mark_in, form-one, form-nil}
 use Rattle.lisp_reader.proofs.Items.{items-close, items-points, items-next}
@@ -199,17 +204,85 @@ record Reads (r : Read) (t : List ℕ) (f : Datum) (rest : List ℕ) : Type 0 wh
   n : ℕ
   got : r ≡ Got f n
   far : rest ≡ drop (n + 1) t
+  room : n < length t
 
 reads-same : (r s : Read) (t : List ℕ) (f : Datum) (rest : List ℕ) → r ≡ s → Reads s t f rest → Reads r t f rest
-reads-same r s t f rest e p = record { n = p.n; got = e ∙ p.got; far = p.far }
+reads-same r s t f rest e p = record { n = p.n; got = e ∙ p.got; far = p.far; room = p.room }
 
 reads-shift : (r : Read) (t : List ℕ) (k : ℕ) (f : Datum) (rest : List ℕ) → Reads r (drop k t) f rest → Reads (shift k r) t f rest
 reads-shift r t k f rest p =
     let e : k + (p.n + 1) ≡ (k + p.n) + 1 = omega arith in
-    record { n = k + p.n; got = ap (shift k) p.got; far = p.far ∙ drop-drop (p.n + 1) k t ∙ ap (λ m. drop m t) e }
+    record { n = k + p.n; got = ap (shift k) p.got; far = p.far ∙ drop-drop (p.n + 1) k t ∙ ap (λ m. drop m t) e; room = omega (arith, p.room, length-drop k t) }
 
 reads-mapped : (h : Datum → Datum) (r : Read) (t : List ℕ) (f : Datum) (rest : List ℕ) → Reads r t f rest → Reads (mapped h r) t (h f) rest
-reads-mapped h r t f rest p = record { n = p.n; got = ap (mapped h) p.got; far = p.far }
+reads-mapped h r t f rest p = record { n = p.n; got = ap (mapped h) p.got; far = p.far; room = p.room }
+
+-- There is room for what is at the front.
+
+abbrev Room : ℕ → Front → Type 0
+Room n (Text m) = m < n
+Room n (Atom m) = m < n
+Room n _ = Unit {0}
+
+either : (n : ℕ) (c : Bool) (x y : Front) → Room n x → Room n y → Room n (cond c x y)
+either n true x y h k = h
+either n false x y h k = k
+
+later-room : (k n : ℕ) (o : Option ℕ) → IfSome o (λ m. m < n) → IfSome (later k o) (λ m. m < n + k)
+later-room k n None h = tt
+later-room k n (Some m) h = omega arith
+
+some-either : (n : ℕ) (c : Bool) (x y : Option ℕ) → IfSome x (λ m. m < n) → IfSome y (λ m. m < n) → IfSome (cond c x y) (λ m. m < n)
+some-either n true x y h k = h
+some-either n false x y h k = k
+
+string-within : (t : List ℕ) → IfSome (s.string t) (λ m. m < length t)
+unfolding s.string
+string-within [] = tt
+string-within (b ∷ []) = some-either 1 (nat_eq b 34) (Some 0) None (omega arith) tt
+string-within (b ∷ c ∷ t) =
+    let two : length t + 2 ≡ length (b ∷ c ∷ t) = omega arith in
+    let one : length (c ∷ t) + 1 ≡ length (b ∷ c ∷ t) = omega arith in
+    some-either (length (b ∷ c ∷ t)) (nat_eq b 34) (Some 0) _ (omega arith)
+    (some-either (length (b ∷ c ∷ t)) (nat_eq b 92) (later 2 (s.string t)) (later 1 (s.string (c ∷ t)))
+    (subst (λ n. IfSome (later 2 (s.string t)) (λ m. m < n)) two (later-room 2 (length t) (s.string t) (string-within t)))
+    (subst (λ n. IfSome (later 1 (s.string (c ∷ t))) (λ m. m < n)) one (later-room 1 (length (c ∷ t)) (s.string (c ∷ t)) (string-within (c ∷ t)))))
+
+text-room : (n : ℕ) (o : Option ℕ) → IfSome o (λ m. m < n) → Room (n + 1) (s.text o)
+text-room n None h = tt
+text-room n (Some m) h = omega arith
+
+comment-room : (n : ℕ) (o : Option ℕ) → Room n (s.comment o)
+comment-room n None = tt
+comment-room n (Some m) = tt
+
+plain-room : (b : ℕ) (t : List ℕ) → Room (length t + 1) (s.plain b t)
+plain-room b t =
+    let n = length t + 1 in
+    let run_fits : s.run t < n = omega (arith, prefix_len-le-length in_atom t) in
+    either n (s.is_blank b) (Gap 0) _ tt (either n (nat_eq b 59) (Gap (s.line t)) _ tt (either n (nat_eq b 40) Open _ tt (either n (nat_eq b 41) Close _ tt (either n (nat_eq b 39) Quote _ tt
+    (either n (nat_eq b 34) (s.text (s.string t)) _ (text-room (length t) (s.string t) (string-within t)) (either n (in_atom b) (Atom (s.run t)) Stray run_fits tt))))))
+
+front-room : (u : List ℕ) → Room (length u) (front u)
+unfolding front
+front-room [] = tt
+front-room (b ∷ t) =
+    let n : length t + 1 ≡ length (b ∷ t) = omega arith in
+    either (length (b ∷ t)) (s.opens_block (b ∷ t)) (s.comment (s.block 0 (drop 1 t))) (s.plain b t) (comment-room (length (b ∷ t)) (s.block 0 (drop 1 t))) (subst (λ k. Room k (s.plain b t)) n (plain-room b t))
+
+atom-room : (u : List ℕ) (n : ℕ) → front u ≡ Atom n → n < length u
+atom-room u n e = subst (Room (length u)) e (front-room u)
+
+string-room : (u : List ℕ) (n : ℕ) → front u ≡ Text n → n < length u
+string-room u n e = subst (Room (length u)) e (front-room u)
+
+close-room : (u : List ℕ) → front u ≡ Close → 0 < length u
+unfolding front
+close-room [] e = cc
+close-room (b ∷ u) e = omega arith
+
+gaps-room : (t : List ℕ) → 0 < length (behind t) → gaps t < length t
+gaps-room t h = omega (arith, length-drop (gaps t) t)
 
 -- a form by what stands behind its gaps
 reads-front : (k : ℕ) (inside : Bool) (t : List ℕ) (x : Front) (f : Datum) (rest : List ℕ) → front (behind t) ≡ x →
@@ -245,7 +318,7 @@ reads-item k some t f d middle rest p r q =
 -- a point, the last form and the end
 reads-closing : (f : Datum) (v : List ℕ) → front (behind v) ≡ Close → Reads (closing false f v) v f (drop 1 (behind v))
 reads-closing f v c =
-    reads-same _ _ v f (drop 1 (behind v)) (ap (λ x. shift (gaps v) (closing_by false f (behind v) x)) c) (reads-shift (Got f 0) v (gaps v) f (drop 1 (behind v)) (record { n = 0; got = refl; far = refl }))
+    reads-same _ _ v f (drop 1 (behind v)) (ap (λ x. shift (gaps v) (closing_by false f (behind v) x)) c) (reads-shift (Got f 0) v (gaps v) f (drop 1 (behind v)) (record { n = 0; got = refl; far = refl; room = close-room (behind v) c }))
 
 reads-last : (k : ℕ) (t : List ℕ) (n : ℕ) (f : Datum) (middle : List ℕ) → front (behind t) ≡ Atom n → leaf false (take (n + 1) (behind t)) ≡ Point → IsForm k (drop 1 (behind t)) f middle →
     Reads (form false true k (drop 1 (behind t))) (drop 1 (behind t)) f middle → front (behind middle) ≡ Close →
@@ -265,15 +338,15 @@ reads-last k t n f middle e h p r c =
 
 mutual
   reads-form : {k : ℕ} {t : List ℕ} {f : Datum} {rest : List ℕ} → IsForm k t f rest → (inside : Bool) → Reads (form false inside k t) t f rest
-  reads-form (integer t n z e h) inside = reads-front _ inside t (Atom n) _ _ e (record { n = n; got = ap (λ l. leaf_read false l n) h; far = refl })
-  reads-form (symbol t n s e h) inside = reads-front _ inside t (Atom n) _ _ e (record { n = n; got = ap (λ l. leaf_read false l n) h; far = refl })
-  reads-form (string t n e) inside = reads-front _ inside t (Text n) _ _ e (record { n = n; got = refl; far = refl })
+  reads-form (integer t n z e h) inside = reads-front _ inside t (Atom n) _ _ e (record { n = n; got = ap (λ l. leaf_read false l n) h; far = refl; room = atom-room (behind t) n e })
+  reads-form (symbol t n s e h) inside = reads-front _ inside t (Atom n) _ _ e (record { n = n; got = ap (λ l. leaf_read false l n) h; far = refl; room = atom-room (behind t) n e })
+  reads-form (string t n e) inside = reads-front _ inside t (Text n) _ _ e (record { n = n; got = refl; far = refl; room = string-room (behind t) n e })
   reads-form (quoted e p) inside =
       reads-front _ inside _ Quote _ _ e (reads-shift _ (behind _) 1 _ _ (reads-mapped quote_form _ (drop 1 (behind _)) _ _ (reads-form p true)))
   reads-form (list e p) inside = reads-front _ inside _ Open _ _ e (reads-shift _ (behind _) 1 _ _ (reads-items p))
 
   reads-items : {k : ℕ} {some : Bool} {t : List ℕ} {d : Datum} {rest : List ℕ} → IsItems k some t d rest → Reads (items false (form false true k) some 0 t) t d rest
-  reads-items (end t e) = record { n = gaps t; got = items-close false _ _ t (ap (kind_of false _ (behind t)) e); far = drop-drop 1 (gaps t) t }
+  reads-items (end t e) = record { n = gaps t; got = items-close false _ _ t (ap (kind_of false _ (behind t)) e); far = drop-drop 1 (gaps t) t; room = gaps-room t (close-room (behind t) e) }
   reads-items (item p q) = reads-item _ _ _ _ _ _ _ p (reads-form p true) (reads-items q)
   reads-items (last_item n e h p c) = reads-last _ _ n _ _ e h p (reads-form p true) c
 
@@ -294,36 +367,62 @@ nothing-there : (u : List ℕ) → nat_eq (length u) 0 ≡ true → u ≡ []
 nothing-there [] h = refl
 nothing-there (b ∷ u) h = absurd (let none : nat_eq (length (b ∷ u)) 0 ≡ false = grind (arith, nat_tests) in let k : true ≡ false = sym h ∙ none in cc)
 
-abbrev FoundBook : ℕ → List ℕ → Answers → Type 0
-FoundBook left t b = b.1 ≡ None → IsBook left t (map (λ x. x.0) b.0)
+-- the place of a form is what stands before it
+place-is : (bytes place : ℕ) (t : List ℕ) → place + length t ≡ bytes → nat_eq (length (behind t)) 0 ≡ false → bytes - length (behind t) ≡ place + gaps t
+place-is bytes place t whole some =
+    let long : 0 < length (behind t) = grind (arith, nat_tests) in
+    omega (arith, length-drop (gaps t) t)
+
+-- so many bytes are left behind a form
+left-is : (bytes place n : ℕ) (t : List ℕ) → place + length t ≡ bytes → n < length t → (place + (n + 1)) + length (drop (n + 1) t) ≡ bytes
+left-is bytes place n t whole room = omega (arith, length-drop (n + 1) t)
+
+abbrev FoundBook : ℕ → ℕ → List ℕ → Answers → Type 0
+FoundBook bytes left t b = b.1 ≡ None → IsBook bytes left t b.0
+
+form-room : (t : List ℕ) (f : Datum) (n : ℕ) (rest : List ℕ) → form false false 200 t ≡ Got f n → IsForm 200 t f rest → n < length t
+form-room t f n rest e p =
+    let r = reads-form p false in
+    let same : Got f n ≡ Got f r.n = sym e ∙ r.got in
+    let number : r.n ≡ n = cc in
+    subst (λ m. m < length t) number r.room
 
 -- a form of a book, and the forms behind it
-found-next : (left place : ℕ) (b : ℕ) (t : List ℕ) (r : Read) → next_form false (nat_eq left 0) (b ∷ t) ≡ r →
-    ((n : ℕ) → FoundBook (left - 1) (drop n t) (book false (left - 1) (place + 1) n t)) →
-    FoundBook left (b ∷ t) (book_and false r place (λ f n. before false (f, place + gaps (b ∷ t)) (book false (left - 1) (place + 1) n t)))
-found-next left place b t (Bad c n) e more h = absurd (let k = h in cc)
-found-next zero place b t (Got f n) e more h = absurd (subst IsBad e (none_bad false (b ∷ t)))
-found-next (suc left) place b t (Got f n) e more h =
-    let read : form false false 200 (b ∷ t) ≡ Got f n = sym (free-form left (b ∷ t)) ∙ e in
+found-next : (bytes left place : ℕ) (b : ℕ) (t : List ℕ) (r : Read) → place + length (b ∷ t) ≡ bytes → nat_eq (length (behind (b ∷ t))) 0 ≡ false → next_form false (nat_eq left 0) (b ∷ t) ≡ r →
+    ((n : ℕ) → (place + 1) + n + length (drop n t) ≡ bytes → FoundBook bytes (left - 1) (drop n t) (book false (left - 1) (place + 1) n t)) →
+    FoundBook bytes left (b ∷ t) (book_and false r place (λ f n. before false (f, place + gaps (b ∷ t)) (book false (left - 1) (place + 1) n t)))
+found-next bytes left place b t (Bad c n) whole some e more h = absurd (let k = h in cc)
+found-next bytes zero place b t (Got f n) whole some e more h = absurd (subst IsBad e (none_bad false (b ∷ t)))
+found-next bytes (suc left) place b t (Got f n) whole some e more h =
+    let w : List ℕ = b ∷ t in
+    let read : form false false 200 w ≡ Got f n = sym (free-form left w) ∙ e in
     let far : n + 1 ≡ suc n = omega arith in
     let less : suc left - 1 ≡ left = omega arith in
-    let first : IsForm 200 (b ∷ t) f (drop (n + 1) (b ∷ t)) = subst (Found (IsForm 200 (b ∷ t)) (b ∷ t)) read (found-form 200 false (b ∷ t)) in
-    let near : IsForm 200 (b ∷ t) f (drop n t) = subst (λ m. IsForm 200 (b ∷ t) f (drop m (b ∷ t))) far first in
-    next near (subst (λ k. IsBook k (drop n t) (map (λ x. x.0) (book false (suc left - 1) (place + 1) n t).0)) less (more n h))
+    let first : IsForm 200 w f (drop (n + 1) w) = subst (Found (IsForm 200 w) w) read (found-form 200 false w) in
+    let near : IsForm 200 w f (drop n t) = subst (λ m. IsForm 200 w f (drop m w)) far first in
+    let room : n < length w = form-room w f n (drop (n + 1) w) read first in
+    let size : (place + 1) + n + length (drop n t) ≡ bytes = omega (arith, length-drop n t) in
+    let rest : IsBook bytes left (drop n t) (book false (suc left - 1) (place + 1) n t).0 = subst (λ k. IsBook bytes k (drop n t) (book false (suc left - 1) (place + 1) n t).0) less (more n size h) in
+    subst (λ k. IsBook bytes (suc left) w ((f, k) ∷ (book false (suc left - 1) (place + 1) n t).0)) (place-is bytes place w whole some) (next near rest)
 
-found-book : (left place skip : ℕ) (t : List ℕ) → FoundBook left (drop skip t) (book false left place skip t)
+found-book : (bytes left place skip : ℕ) (t : List ℕ) → place + skip + length (drop skip t) ≡ bytes → FoundBook bytes left (drop skip t) (book false left place skip t)
 unfolding book gaps_from
-found-book left place zero [] h = relation.end [] refl
-found-book left place (suc skip) [] h = relation.end [] refl
-found-book left place (suc skip) (b ∷ t) h = found-book left (place + 1) skip t h
-found-book left place zero (b ∷ t) h =
+found-book bytes left place zero [] whole h = relation.end [] refl
+found-book bytes left place (suc skip) [] whole h = relation.end [] refl
+found-book bytes left place (suc skip) (b ∷ t) whole h =
+    let same : (place + 1) + skip + length (drop skip t) ≡ bytes = (let e : (place + 1) + skip ≡ place + suc skip = omega arith in ap (λ k. k + length (drop skip t)) e ∙ whole) in
+    found-book bytes left (place + 1) skip t same h
+found-book bytes left place zero (b ∷ t) whole h =
     on (nat_eq (length (behind (b ∷ t))) 0) refl
     (book_and false (next_form false (nat_eq left 0) (b ∷ t)) place (λ f n. before false (f, place + gaps (b ∷ t)) (book false (left - 1) (place + 1) n t)))
-    (found-next left place b t (next_form false (nat_eq left 0) (b ∷ t)) refl (λ n. found-book (left - 1) (place + 1) n t)) h
+    (λ some. found-next bytes left place b t (next_form false (nat_eq left 0) (b ∷ t)) start some refl (λ n size. found-book bytes (left - 1) (place + 1) n t size)) h
   where
-    on : (c : Bool) → nat_eq (length (behind (b ∷ t))) 0 ≡ c → (y : Answers) → FoundBook left (b ∷ t) y → FoundBook left (b ∷ t) (cond c ([], None) y)
+    start : place + length (b ∷ t) ≡ bytes
+    start = omega (arith, whole)
+
+    on : (c : Bool) → nat_eq (length (behind (b ∷ t))) 0 ≡ c → (y : Answers) → (nat_eq (length (behind (b ∷ t))) 0 ≡ false → FoundBook bytes left (b ∷ t) y) → FoundBook bytes left (b ∷ t) (cond c ([], None) y)
     on true e y k g = relation.end (b ∷ t) (nothing-there (behind (b ∷ t)) e)
-    on false e y k g = k g
+    on false e y k g = k e g
 
 -- and back
 book-far : (left place skip : ℕ) (t : List ℕ) → book false left place skip t ≡ book false left (place + skip) 0 (drop skip t)
@@ -347,34 +446,50 @@ form-some k _ _ _ (string t n e) = some-front (behind t) (Text n) e (λ q. (let 
 form-some _ t _ _ (quoted e p) = some-front (behind t) Quote e (λ q. (let k = q in cc))
 form-some _ t _ _ (list e p) = some-front (behind t) Open e (λ q. (let k = q in cc))
 
-record ReadsBook (left place : ℕ) (t : List ℕ) (fs : List Datum) : Type 0 where
-  xs : List (Datum × ℕ)
-  forms : map (λ x. x.0) xs ≡ fs
-  read : book false left place 0 t ≡ (xs, None)
-
-reads-next : (left place : ℕ) (t : List ℕ) (f : Datum) (rest : List ℕ) (fs : List Datum) → nat_eq (length (behind t)) 0 ≡ false → (r : Reads (form false false 200 t) t f rest) →
-    ReadsBook left ((place + 1) + r.n) rest fs → ReadsBook (suc left) place t (f ∷ fs)
-reads-next left place [] f rest fs some r q = absurd (let none : Bad UnclosedList 0 ≡ Got f r.n = sym (form-nil false false 200) ∙ r.got in cc)
-reads-next left place (b ∷ t) f rest fs some r q =
+reads-next : (bytes left place : ℕ) (t : List ℕ) (f : Datum) (rest : List ℕ) (fs : List (Datum × ℕ)) → place + length t ≡ bytes → nat_eq (length (behind t)) 0 ≡ false →
+    (r : Reads (form false false 200 t) t f rest) → book false left ((place + 1) + r.n) 0 rest ≡ (fs, None) → book false (suc left) place 0 t ≡ ((f, bytes - length (behind t)) ∷ fs, None)
+reads-next bytes left place [] f rest fs whole some r q = absurd (let none : Bad UnclosedList 0 ≡ Got f r.n = sym (form-nil false false 200) ∙ r.got in cc)
+reads-next bytes left place (b ∷ t) f rest fs whole some r q =
+    let w : List ℕ = b ∷ t in
     let less : suc left - 1 ≡ left = omega arith in
     let far : r.n + 1 ≡ suc r.n = omega arith in
-    let there : rest ≡ drop r.n t = r.far ∙ ap (λ m. drop m (b ∷ t)) far in
-    let behind_it : book false (suc left - 1) (place + 1) r.n t ≡ (q.xs, None) =
-    (book-far (suc left - 1) (place + 1) r.n t ∙ (λ i. book false (less i) ((place + 1) + r.n) 0 (sym there i)) ∙ q.read) in
-    record {
-      xs = (f, place + gaps (b ∷ t)) ∷ q.xs;
-      forms = ap (λ l. f ∷ l) q.forms;
-      read = book-and false (suc left) place (b ∷ t) (Got f r.n) some (free-form left (b ∷ t) ∙ r.got) b t refl ∙ ap (before false (f, place + gaps (b ∷ t))) behind_it;
-    }
+    let there : rest ≡ drop r.n t = r.far ∙ ap (λ m. drop m w) far in
+    let behind_it : book false (suc left - 1) (place + 1) r.n t ≡ (fs, None) =
+    (book-far (suc left - 1) (place + 1) r.n t ∙ (λ i. book false (less i) ((place + 1) + r.n) 0 (sym there i)) ∙ q) in
+    book-and false (suc left) place w (Got f r.n) some (free-form left w ∙ r.got) b t refl
+    ∙ ap (before false (f, place + gaps w)) behind_it ∙ ap (λ k. ((f, k) ∷ fs, None)) (sym (place-is bytes place w whole some))
 
-reads-book : {left : ℕ} {t : List ℕ} {fs : List Datum} → IsBook left t fs → (place : ℕ) → ReadsBook left place t fs
-reads-book {left} (relation.end t e) place = record { xs = []; forms = refl; read = book-nothing false left place t (ap length e) }
-reads-book (next p q) place = let r = reads-form p false in reads-next _ place _ _ _ _ (form-some 200 _ _ _ p) r (reads-book q ((place + 1) + r.n))
+size-is : (bytes place : ℕ) (t : List ℕ) (f : Datum) (rest : List ℕ) (r : Reads (form false false 200 t) t f rest) → place + length t ≡ bytes → ((place + 1) + r.n) + length rest ≡ bytes
+size-is bytes place t f rest r whole = omega (arith, ap length r.far, length-drop (r.n + 1) t, r.room, whole)
+
+reads-book : {bytes left : ℕ} {t : List ℕ} {fs : List (Datum × ℕ)} → IsBook bytes left t fs → (place : ℕ) → place + length t ≡ bytes → book false left place 0 t ≡ (fs, None)
+reads-book {bytes} {left} (relation.end t e) place whole = book-nothing false left place t (ap length e)
+reads-book {bytes} (next p q) place whole =
+    let r = reads-form p false in
+    reads-next bytes _ place _ _ _ _ whole (form-some 200 _ _ _ p) r (reads-book q ((place + 1) + r.n) (size-is bytes place _ _ _ r whole))
+
+short-book : (text : List ℕ) → length text ≤ 1048576 → book_of text ≡ parse false text
+short-book text h =
+    let short : nat_lt 1048576 (length text) ≡ false = grind (arith, nat_tests) in
+    ap (λ c. cond c (parse true (take 1048576 text)) (parse false text)) short
+
+-- a book without a fault isn't too long
+ends-short : (text : List ℕ) (fs : List (Datum × ℕ)) → book_of text ≡ (fs, None) → length text ≤ 1048576
+ends-short text fs h = on (nat_lt 1048576 (length text)) refl h
+  where
+    on : (c : Bool) → nat_lt 1048576 (length text) ≡ c → cond c (parse true (take 1048576 text)) (parse false text) ≡ (fs, None) → length text ≤ 1048576
+    on true e k = absurd (goes_on (take 1048576 text) (ap (λ b. b.1) k))
+    on false e k = grind (arith, nat_tests)
 
 pub grammar : GrammarIsRelation
 grammar = record {
-  only = λ t fs h. (let found = found-book 10000 0 0 t (ap (λ b. b.1) h) in subst (λ l. IsBook 10000 t (map (λ x. x.0) l)) (ap (λ b. b.0) h) found);
-  each = λ t fs p. (let r = reads-book p 0 in (r.xs, r.forms, r.read));
+  only = λ text fs h. (
+      let short = ends-short text fs h in
+      let read : parse false text ≡ (fs, None) = sym (short-book text short) ∙ h in
+      let whole : 0 + 0 + length text ≡ length text = omega arith in
+      let found = found-book (length text) 10000 0 0 text whole (ap (λ b. b.1) read) in
+      (short, subst (IsBook (length text) 10000 text) (ap (λ b. b.0) read) found));
+  each = λ text fs short p. (let whole : 0 + length text ≡ length text = omega arith in short-book text short ∙ reads-book p 0 whole);
 }
 
 pub ruleset relation_laws = (grammar)

@@ -5,8 +5,8 @@ use Rattle.std.proofs.lemmas.Bool.Decides.{nat_tests}
 use Rattle.lisp_data.specs.declared.form.Form.{Form}
 use Rattle.lisp_data.specs.Datum.{Datum, TextForm}
 use Rattle.lisp_reader.specs.Spans.{Front, unescaped, front, is_gap, gaps_from, gaps, behind}
-use Rattle.lisp_reader.specs.TokenView.{seen}
-use Rattle.lisp_reader.specs.Says.{SaysRead}
+use Rattle.lisp_reader.specs.view.TokenView.{seen}
+use Rattle.lisp_reader.specs.view.Says.{SaysRead}
 use Rattle.lisp_reader.specs.Grammar.{Read, Got, Bad, shift, mapped, quote_form, at_end, in_text, leaf_at, leaf_read, one_by, one, items, form}
 use Rattle.lisp_reader.specs.declared.read.ReadError.{ReadError}
 use Rattle.lisp_reader.specs.declared.token.Token.{Token}

@@ -9,7 +9,8 @@ use Rattle.lisp_data.specs.declared.value.Value.{Value}
 use Rattle.lisp_data.specs.Datum.{Datum, chain, nil_form}
 use Rattle.lisp_data.specs.FormView.{form_of}
 use Rattle.lisp_data.specs.declared.form.Form.{Form}
-use Rattle.lisp_reader.specs.FormValue.{has_text, value, value_before, SaysBuilt, SaysBefore}
+use Rattle.lisp_reader.specs.FormValue.{has_text, value}
+use Rattle.lisp_reader.specs.view.Building.{value_before, SaysBuilt, SaysBefore}
 
 or-assoc : (a b c : Bool) → (a || (b || c)) ≡ ((a || b) || c)
 or-assoc true b c = refl

@@ -4,7 +4,7 @@ use Rattle.std.specs.Coded.{Coded, coded×, coded_list, coded_option, coded_ℕ}
 use Rattle.lisp_data.specs.Datum.{Datum, datum_code}
 use Rattle.lisp_data.specs.declared.code.Code.{Code}
 use Rattle.lisp_data.specs.contracts.code.Code as code
-use Rattle.lisp_data.specs.FormView.{form_of}
+use Rattle.lisp_data.specs.FormView.{form_of, IsProper}
 use Rattle.lisp_reader.specs.declared.reader.Located.{Located}
 use Rattle.lisp_reader.specs.declared.read.ReadError.{ReadError}
 use Rattle.lisp_reader.specs.declared.read.ReadError.TheVariants.{Refused, Memory}
@@ -22,3 +22,8 @@ SaysNext old (Ok (Some l)) new = old ≡ ((form_of l.form, l.place) ∷ new.0, n
 SaysNext old (Ok None) new = (old ≡ ([], None)) × (new ≡ old)
 SaysNext old (Err (Refused code place)) new = (old ≡ ([], Some (code, place))) × (new ≡ old)
 SaysNext old (Err Memory) new = new ≡ old
+
+-- the form that was found is proper
+abbrev pub FindsProper : Result (Option Located) ReadError → Type 0
+FindsProper (Ok (Some l)) = IsProper l.form
+FindsProper _ = Unit {0}

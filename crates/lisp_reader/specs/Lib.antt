@@ -1,14 +1,10 @@
 pub mod Spans
-pub mod TokenView
 pub mod Grammar
-pub mod Says
 pub mod Relation
-pub mod Closes
-pub mod KindView
 pub mod Answers
-pub mod BookSteps
 pub mod FormValue
 pub mod Printed
 pub mod Texts
-pub mod Writes
 pub mod Calls
+pub mod Writes
+pub mod view

@@ -1,9 +1,9 @@
 -- The grammar as a relation: which forms a text begins with, and what follows them. Tokens are longest.
-use Rattle.std.specs.Prelude.{◌≡◌, ℕ, suc, ◌+◌, ◌-◌, ℤ, Bool, true, false, List, [], ◌∷◌, map, take, drop, None}
+use Rattle.std.specs.Prelude.{◌≡◌, ℕ, suc, ◌+◌, ◌-◌, ◌≤◌, ℤ, Bool, true, false, List, [], ◌∷◌, length, take, drop, None}
 use Rattle.lisp_data.specs.Datum.{Datum, IntForm, SymForm, TextForm, PairForm, nil_form}
 use Rattle.lisp_data.specs.Atoms.{Integer, Named, Point, leaf}
 use Rattle.lisp_reader.specs.Spans.{Open, Close, Quote, Text, Atom, unescaped, front, behind}
-use Rattle.lisp_reader.specs.Grammar.{quote_form, parse}
+use Rattle.lisp_reader.specs.Grammar.{quote_form, book_of}
 
 mutual
   -- `IsForm k t f rest`: behind its gaps the text t begins with the form f, in which k lists and quotes at most are open at once, and
@@ -23,12 +23,13 @@ mutual
     last : {k : ℕ} {t : List ℕ} (n : ℕ) {f : Datum} {middle : List ℕ} → front (behind t) ≡ Atom n → leaf false (take (n + 1) (behind t)) ≡ Point →
         IsForm k (drop 1 (behind t)) f middle → front (behind middle) ≡ Close → IsItems k true t f (drop 1 (behind middle))
 
--- a book of these forms, which are so many at most
-pub data IsBook : ℕ → List ℕ → List Datum → Type 0 where
-  end : {left : ℕ} (t : List ℕ) → behind t ≡ [] → IsBook left t []
-  next : {left : ℕ} {t : List ℕ} {f : Datum} {rest : List ℕ} {fs : List Datum} → IsForm 200 t f rest → IsBook left rest fs → IsBook (suc left) t (f ∷ fs)
+-- A book of so many bytes, from its text t on: forms with their places, which are so many at most.
+pub data IsBook : ℕ → ℕ → List ℕ → List (Datum × ℕ) → Type 0 where
+  end : {bytes left : ℕ} (t : List ℕ) → behind t ≡ [] → IsBook bytes left t []
+  next : {bytes left : ℕ} {t : List ℕ} {f : Datum} {rest : List ℕ} {fs : List (Datum × ℕ)} → IsForm 200 t f rest → IsBook bytes left rest fs →
+      IsBook bytes (suc left) t ((f, bytes - length (behind t)) ∷ fs)
 
--- A whole text has no fault exactly where it is a book by the relation, and its forms are the relation's.
+-- A book has no fault exactly where it is one by the relation and keeps the limit of its bytes, and its forms and their places are the relation's.
 pub record GrammarIsRelation : Type 0 where
-  pub only : (text : List ℕ) (fs : List (Datum × ℕ)) → parse false text ≡ (fs, None) → IsBook 10000 text (map (λ x. x.0) fs)
-  pub each : (text : List ℕ) (fs : List Datum) → IsBook 10000 text fs → (xs : List (Datum × ℕ)) × (map (λ x. x.0) xs ≡ fs) × (parse false text ≡ (xs, None))
+  pub only : (text : List ℕ) (fs : List (Datum × ℕ)) → book_of text ≡ (fs, None) → (length text ≤ 1048576) × IsBook (length text) 10000 text fs
+  pub each : (text : List ℕ) (fs : List (Datum × ℕ)) → length text ≤ 1048576 → IsBook (length text) 10000 text fs → book_of text ≡ (fs, None)

@@ -8,12 +8,12 @@ ghost use Rattle.lisp_data.specs.FormView.{form_of, forms_of, IsProper, ArePrope
 ghost use Rattle.lisp_data.specs.Atoms as atoms;
 ghost use Rattle.lisp_data.specs.view.AtomView.{leaf_of, IsNear};
 ghost use Rattle.lisp_data.specs.SymbolText.{NamesSymbol};
-ghost use Rattle.lisp_reader.specs.Says.{is_point, SaysRead, SaysPlace};
+ghost use Rattle.lisp_reader.specs.view.Says.{is_point, SaysRead, SaysPlace};
 ghost use Rattle.lisp_reader.specs.Spans as spans;
 ghost use Rattle.lisp_reader.specs.Grammar as spec;
-ghost use Rattle.lisp_reader.specs.Closes.{closed, tail_at};
-ghost use Rattle.lisp_reader.specs.TokenView.{seen, IsWithin};
-ghost use Rattle.lisp_reader.specs.KindView.{seen_kind};
+ghost use Rattle.lisp_reader.specs.view.Closes.{closed, tail_at};
+ghost use Rattle.lisp_reader.specs.view.TokenView.{seen, IsWithin};
+ghost use Rattle.lisp_reader.specs.view.KindView.{seen_kind};
 
 use crate::token::{Token, next_token};
 use lisp_data::{Atom, Bytes, Code, Form, Forms, Memory, Symbol};

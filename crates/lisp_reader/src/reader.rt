@@ -3,11 +3,12 @@
 ghost use Rattle.std.specs.Prelude.{◌≡◌, ◌≤◌, length, drop, IfOk};
 ghost use Rattle.lisp_data.specs.FormView.{form_of, IsProper};
 ghost use Rattle.lisp_reader.specs.Answers.{SaysNext};
-ghost use Rattle.lisp_reader.specs.BookSteps.{SaysStep, GoesOnWithin, FindsProper, StepIsProper};
+ghost use Rattle.lisp_reader.specs.view.BookSteps.{SaysStep, GoesOnWithin, StepIsProper};
+ghost use Rattle.lisp_reader.specs.Answers.{FindsProper};
 ghost use Rattle.lisp_reader.specs.Grammar as spec;
 ghost use Rattle.lisp_reader.specs.Grammar.{parse, book};
 ghost use Rattle.lisp_reader.specs.Spans as spans;
-ghost use Rattle.lisp_reader.specs.TokenView.{seen};
+ghost use Rattle.lisp_reader.specs.view.TokenView.{seen};
 
 use crate::read::{Input, ReadError, refused};
 use crate::token::{Token, next_token};

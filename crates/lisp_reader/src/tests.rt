@@ -1,61 +1,66 @@
 //! Tests of the reader and of printed text.
 
 use crate::{FormReader, ReadError, print_form, print_value, value_of};
-use lisp_data::{Form, Text, ValueError};
+use lisp_data::{Code, Form, Text, ValueError};
 use std::test::Fail;
 
-// How many forms a text has, and its end: the code and place of its first fault, or 0 at 0.
-fn outcome(rt: &HostRuntime, text: &[u8], more: bool) -> (u32, u8, u64) {
+// How many forms a text has, and its end: the code and place of its first fault, or none at 0.
+fn outcome(rt: &HostRuntime, text: &[u8], more: bool) -> (u32, Option<Code>, u64) {
     let mut reader = FormReader::new(text, more);
     for forms in 0..50 {
         match reader.next(rt.alloc()) {
             Ok(Some(_)) => {}
-            Ok(None) => return (forms, 0, 0),
-            Err(ReadError::Refused { code, place }) => return (forms, code.number(), place),
-            Err(ReadError::Memory) => return (forms, 99, 0),
+            Ok(None) => return (forms, None, 0),
+            Err(ReadError::Refused { code, place }) => return (forms, Some(code), place),
+            Err(ReadError::Memory) => return (98, None, 0),
         }
     }
-    (50, 98, 0)
+    (99, None, 0)
 }
 
 #[test]
 fn books(rt: HostRuntime) {
-    let expected: [(&[u8], u32, u8, u64); 30] = [
-        (b"(defun a (x) x) )", 1, 3, 16),
-        (b"(defun f (x) (cons x 1/2))", 0, 5, 21),
-        (b"#|a #|b|# c|# (defun k (x) 'x)", 1, 0, 0),
-        (b"(a 'b -12) ; c\n #| d |# ()", 2, 0, 0),
+    let expected: [(&[u8], u32, Option<Code>, u64); 30] = [
+        (b"(defun a (x) x) )", 1, Some(Code::StrayClose), 16),
+        (b"(defun f (x) (cons x 1/2))", 0, Some(Code::BadNumber), 21),
+        (b"#|a #|b|# c|# (defun k (x) 'x)", 1, None, 0),
+        (b"(a 'b -12) ; c\n #| d |# ()", 2, None, 0),
         (
             b"(a . (b)) (a b . c ) (a . nil) (a . 'b) \"a\\\"b\"",
             5,
-            0,
+            None,
             0,
         ),
-        (b"(a . )", 0, 4, 5),
-        (b"( . a)", 0, 4, 2),
-        (b"(a . b (c))", 0, 4, 7),
-        (b"(a . b #x)", 0, 1, 7),
-        (b"(a . b :)", 0, 1, 7),
-        (b"(a . b :x)", 0, 4, 7),
-        (b"(a . ')", 0, 3, 6),
-        (b"(a . (b . c) d)", 0, 4, 13),
-        (b"(a . (b . (c)", 0, 2, 13),
-        (b"(a", 0, 2, 2),
-        (b"'", 0, 2, 1),
-        (b"')", 0, 3, 1),
-        (b"(a \"b", 0, 2, 5),
-        (b"' #| b", 0, 2, 6),
-        (b"a \"b", 1, 10, 4),
-        (b"#| #| |#", 0, 10, 8),
-        (b"a:b", 0, 1, 1),
-        (b"a . b", 1, 4, 2),
-        (b"(a .. b)", 0, 4, 3),
-        (b"(a ' . b)", 0, 4, 5),
-        (b"170141183460469231731687303715884105728", 0, 6, 0),
-        (b"-170141183460469231731687303715884105728", 1, 0, 0),
-        (b"1.e5", 0, 5, 0),
-        (b"-.5", 0, 5, 0),
-        (b"1e 1/ +. .a - 00", 6, 0, 0),
+        (b"(a . )", 0, Some(Code::BadDot), 5),
+        (b"( . a)", 0, Some(Code::BadDot), 2),
+        (b"(a . b (c))", 0, Some(Code::BadDot), 7),
+        (b"(a . b #x)", 0, Some(Code::BadByte), 7),
+        (b"(a . b :)", 0, Some(Code::BadByte), 7),
+        (b"(a . b :x)", 0, Some(Code::BadDot), 7),
+        (b"(a . ')", 0, Some(Code::StrayClose), 6),
+        (b"(a . (b . c) d)", 0, Some(Code::BadDot), 13),
+        (b"(a . (b . (c)", 0, Some(Code::UnclosedList), 13),
+        (b"(a", 0, Some(Code::UnclosedList), 2),
+        (b"'", 0, Some(Code::UnclosedList), 1),
+        (b"')", 0, Some(Code::StrayClose), 1),
+        (b"(a \"b", 0, Some(Code::UnclosedList), 5),
+        (b"' #| b", 0, Some(Code::UnclosedList), 6),
+        (b"a \"b", 1, Some(Code::UnclosedText), 4),
+        (b"#| #| |#", 0, Some(Code::UnclosedText), 8),
+        (b"a:b", 0, Some(Code::BadByte), 1),
+        (b"a . b", 1, Some(Code::BadDot), 2),
+        (b"(a .. b)", 0, Some(Code::BadDot), 3),
+        (b"(a ' . b)", 0, Some(Code::BadDot), 5),
+        (
+            b"170141183460469231731687303715884105728",
+            0,
+            Some(Code::IntegerTooWide),
+            0,
+        ),
+        (b"-170141183460469231731687303715884105728", 1, None, 0),
+        (b"1.e5", 0, Some(Code::BadNumber), 0),
+        (b"-.5", 0, Some(Code::BadNumber), 0),
+        (b"1e 1/ +. .a - 00", 6, None, 0),
     ];
     for (text, forms, code, place) in expected {
         assert_eq!(rt;
@@ -64,13 +69,13 @@ fn books(rt: HostRuntime) {
             "in {text:?}"
         );
     }
-    let going_on: [(&[u8], u32, u8, u64); 6] = [
-        (b"a ", 1, 8, 2),
-        (b"ab", 0, 8, 2),
-        (b"1/2", 0, 8, 3),
-        (b"a #", 1, 8, 3),
-        (b"(a:", 0, 1, 2),
-        (b"(a . b c", 0, 4, 7),
+    let going_on: [(&[u8], u32, Option<Code>, u64); 6] = [
+        (b"a ", 1, Some(Code::BookTooLong), 2),
+        (b"ab", 0, Some(Code::BookTooLong), 2),
+        (b"1/2", 0, Some(Code::BookTooLong), 3),
+        (b"a #", 1, Some(Code::BookTooLong), 3),
+        (b"(a:", 0, Some(Code::BadByte), 2),
+        (b"(a . b c", 0, Some(Code::BadDot), 7),
     ];
     for (text, forms, code, place) in going_on {
         assert_eq!(rt;
@@ -83,7 +88,7 @@ fn books(rt: HostRuntime) {
 
 #[test]
 fn depths(rt: HostRuntime) -> Result<(), Fail> {
-    for (depth, code, place) in [(200, 0, 0), (201, 7, 200)] {
+    for (depth, code, place) in [(200, None, 0), (201, Some(Code::TooDeep), 200)] {
         let mut text = Vec::new(rt.alloc());
         for _ in 0..depth {
             text.push(b'(')?;
@@ -93,7 +98,7 @@ fn depths(rt: HostRuntime) -> Result<(), Fail> {
         }
         assert_eq!(rt;
             outcome(&rt, text.as_slice(), false),
-            (u32::from(code == 0), code, place)
+            (u32::from(code.is_none()), code, place)
         );
     }
     Ok(())

@@ -2,7 +2,7 @@
 
 ghost use Rattle.std.specs.Prelude.{◌≡◌, ◌+◌, ◌-◌, ◌≤◌, ◌<◌, length, drop, true, IfSome};
 ghost use Rattle.lisp_reader.specs.Spans as spec;
-ghost use Rattle.lisp_reader.specs.TokenView.{seen, seen_piece, IsWithin};
+ghost use Rattle.lisp_reader.specs.view.TokenView.{seen, seen_piece, IsWithin};
 
 use lisp_data::in_atom;
 

@@ -7,7 +7,8 @@ ghost use Rattle.lisp_data.specs.FormView.{form_of};
 ghost use Rattle.lisp_data.specs.ValueView.{val_of};
 ghost use Rattle.lisp_data.specs.Values.{IsSmall};
 ghost use Rattle.lisp_reader.specs.FormValue as spec;
-ghost use Rattle.lisp_reader.specs.FormValue.{SaysValue, SaysBuilt, SaysBefore};
+ghost use Rattle.lisp_reader.specs.FormValue.{SaysValue};
+ghost use Rattle.lisp_reader.specs.view.Building.{SaysBuilt, SaysBefore};
 
 use lisp_data::{Form, Memory, Symbol, Value, ValueError};
 use std::alloc::Global;

@@ -1,13 +1,11 @@
 -- What entries add to a world, and what it takes for a world to stay sound with them.
-use Rattle.std.specs.Prelude.{◌≡◌, true, false, List, [], ◌∷◌}
+use Rattle.std.specs.Prelude.{◌≡◌, true, List, [], ◌∷◌}
 use Rattle.terms.specs.Worlds.{World, FitsSequent, Holds}
-use Rattle.terms.specs.Measures.{mentions}
 use Rattle.terms.specs.Formed.{IsWellFormed, FitsOver, ObligationsHold}
-use Rattle.terms.specs.Sound.{AllHold, iso_conditions, add_definition, add_variable, add_theorem, add_specification}
+use Rattle.terms.specs.Sound.{AllHold, iso_conditions, add_definition, add_variable, add_theorem, add_specification, add_iso, add_instance, add_link}
 use Rattle.terms.specs.declared.definition.Definition.{Definition}
 use Rattle.terms.specs.declared.sequent.Sequent.{Sequent}
 use Rattle.worlds.specs.Names.{is_free}
-use Rattle.worlds.specs.Entries.{add_iso, add_instance, add_link}
 use Rattle.plans.specs.declared.plan.Entry.{Entry}
 use Rattle.plans.specs.declared.plan.Entry.TheVariants.{Function, Variable, Theorem, Spec, Isomorphism, Instance, Chained}
 
@@ -64,8 +62,3 @@ Admits W (Chained n l) = Unit {0}
 abbrev pub AdmitsAll : World → List Entry → Type 0
 AdmitsAll W [] = Unit {0}
 AdmitsAll W (e ∷ es) = Admits W e × AdmitsAll (add_entry e W) es
-
--- what worlds take as yet: no recursive function
-abbrev pub IsBuilt : Entry → Type 0
-IsBuilt (Function d) = mentions d.name d.body ≡ false
-IsBuilt _ = Unit {0}

@@ -3,7 +3,7 @@ use Rattle.std.specs.Prelude.{◌≡◌, [], map, List}
 use Rattle.terms.specs.Worlds.{World, Each, Holds}
 use Rattle.terms.specs.declared.sequent.Sequent.{Sequent}
 use Rattle.plans.specs.declared.plan.Plan.{Plan}
-use Rattle.plans.specs.Entries.{AdmitsAll, IsBuilt, add_functions}
+use Rattle.plans.specs.Entries.{AdmitsAll, add_functions}
 
 -- nothing is made, and nothing has to be proved
 abbrev pub no_plan : Plan
@@ -27,8 +27,7 @@ pub record IsLawfulPlan (W : World) (p : Plan) : Type 0 where
   pub after : ConditionsHold W p → HoldAfter W p
   pub takes : ConditionsHold W p → HoldBefore W p → HoldAfter W p → AdmitsAll W p.entries
 
--- a plan without claims, of entries that worlds take as yet
+-- a plan without claims
 pub record IsDirect (p : Plan) : Type 0 where
-  pub built : Each IsBuilt p.entries
   pub before : p.before ≡ []
   pub after : p.after ≡ []

@@ -1,10 +1,9 @@
 //! The world with what a plan makes.
 
 ghost use Rattle.std.specs.Prelude.{◌≡◌, true, IfOk, IsErrOf, Ok};
-ghost use Rattle.terms.specs.Worlds.{Each};
 ghost use Rattle.terms.specs.Sound.{add_theorem};
 ghost use Rattle.worlds.specs.Names.{is_free};
-ghost use Rattle.plans.specs.Entries.{Admits, AdmitsAll, IsBuilt, IsNewTheorem, add_entry, add_entries};
+ghost use Rattle.plans.specs.Entries.{Admits, AdmitsAll, IsNewTheorem, add_entry, add_entries};
 
 use crate::plan::Entry;
 use lisp_data::{Memory, Symbol};
@@ -43,8 +42,7 @@ fn with_new_theorem(
 
 /// The world with one more entry.
 fn with_entry(alloc: Global, world: &World, entry: &Entry) -> Result<World, Memory>
-    requires admits { Admits world.now entry.now }
-    requires built { IsBuilt entry.now }
+    requires { Admits world.now entry.now }
     ensures { IfOk result (λ next. next ≡ add_entry entry.now world.now) }
 {
     match entry {
@@ -58,16 +56,13 @@ fn with_entry(alloc: Global, world: &World, entry: &Entry) -> Result<World, Memo
         Entry::Instance(of, pairs, instance) => {
             world.with_instance(alloc, of.share()?, pairs.copy(alloc)?, instance.share()?)
         }
-        Entry::Chained(theorem, link) => {
-            world.with_link(alloc, theorem.share()?, link.copy(alloc)?)
-        }
+        Entry::Chained(theorem, link) => world.with_link(alloc, theorem.share()?, link.copy(alloc)?),
     }
 }
 
 /// The world with entries, added one after the other.
 pub fn install(alloc: Global, world: World, entries: &[Entry]) -> Result<World, Memory>
-    requires admits { AdmitsAll world entries.now }
-    requires built { Each IsBuilt entries.now }
+    requires { AdmitsAll world entries.now }
     ensures { IfOk result (λ next. next ≡ add_entries entries.now world) }
 {
     match entries {

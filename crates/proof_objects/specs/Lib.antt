@@ -3,3 +3,4 @@ pub mod StepRules
 pub mod ProofTrees
 pub mod ProofView
 pub mod ProofFalls
+pub mod Kinds

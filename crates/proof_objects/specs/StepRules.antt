@@ -1,4 +1,7 @@
--- The rules of steps.
+-- The rules of steps, and the facts that they cite.
+use Rattle.std.specs.Prelude.{Bool, true, false}
+use Rattle.terms.specs.declared.entries.FactName.{FactName}
+use Rattle.terms.specs.declared.entries.FactName.TheVariants as fact
 use Rattle.proof_objects.specs.declared.rule.Rule.{Rule}
 use Rattle.proof_objects.specs.declared.rule.Rule.TheVariants as rule
 use Rattle.proof_objects.specs.declared.step.Step.{Step}
@@ -27,3 +30,13 @@ rule_of Discharge = rule.Discharge
 rule_of (Theorem f) = rule.Theorem
 rule_of (Instance f ps) = rule.Instance
 rule_of (Induct m cs) = rule.Induct
+
+abbrev pub is_owed : FactName → Bool
+is_owed (fact.Measure f k) = true
+is_owed _ = false
+
+-- the step cites what a measure owes, or an instance of that
+abbrev pub cites_measure : Step → Bool
+cites_measure (Theorem f) = is_owed f
+cites_measure (Instance f ps) = is_owed f
+cites_measure _ = false

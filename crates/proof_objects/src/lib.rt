@@ -4,6 +4,7 @@
 mod proof;
 mod rule;
 mod step;
+mod walks;
 
 pub use proof::{Proof, ProofNode};
 pub use rule::Rule;

@@ -1,7 +1,7 @@
 //! The steps of proofs: each rule with all that it is given besides its subproofs.
 
 ghost use Rattle.std.specs.Prelude.{◌≡◌};
-ghost use Rattle.proof_objects.specs.StepRules.{rule_of};
+ghost use Rattle.proof_objects.specs.StepRules.{rule_of, cites_measure};
 
 use crate::rule::Rule;
 use lisp_data::Seq;
@@ -123,6 +123,17 @@ impl Step {
             Step::Theorem(_) => Rule::Theorem,
             Step::Instance(_, _) => Rule::Instance,
             Step::Induct(_, _) => Rule::Induct,
+        }
+    }
+
+    /// Whether it cites what a measure owes, or an instance of that.
+    pub(crate) fn cites_measure(&self) -> bool
+        ensures { result ≡ cites_measure self.now }
+    {
+        match self {
+            Step::Theorem(FactName::Measure(_, _)) => true,
+            Step::Instance(FactName::Measure(_, _), _) => true,
+            _ => false,
         }
     }
 }

@@ -10,7 +10,7 @@ use Rattle.terms.specs.Worlds.{names, Distinct, Functions, World, FitsSequent, a
 use Rattle.terms.specs.declared.sequent.Sequent.{Sequent}
 use Rattle.terms.specs.Measures.{mentions, mentions_in, is_nested, is_nested_in, call1, RecursiveCall, Place, Plain, Test, Then, Else, tests_at, next, first_place, recursive_calls, recursive_calls_in, falls, owed_by, obligations}
 use Rattle.terms.specs.BuiltIn.{not_def, natp_def}
-use Rattle.terms.specs.Formed.{with_def, FitsOver, IsFormed, AllFormed, HasBasics}
+use Rattle.terms.specs.Formed.{with_def, FitsOver, IsFormed, AllFormed, HasBasics, ObligationsHold}
 use Rattle.terms.specs.Sound.{Sound, initial_world, AllHold, iso_conditions, add_definition, add_theorem}
 use Rattle.terms.specs.Laws.{StaysTotalFlat}
 use Rattle.terms.proofs.Names.{same_name, name_self}
@@ -179,17 +179,18 @@ free_primitive F f e = by_cases (primitive f) (find F.defs f) (lookup F.vars f) 
     by_cases None q r h = refl
     by_cases (Some p) q r h = cc
 
-pub with_definition : (W : World) → Sound W → (d : Definition) → IsFormed W.functions d → (IsIn (names W) d.name → ⊥) → mentions d.name d.body ≡ false → Sound (add_definition d W)
-with_definition W sound d ok new flat =
+-- with a definition whose obligations hold
+pub with_definition : (W : World) → Sound W → HasBasics W.functions → (d : Definition) → IsFormed W.functions d → (IsIn (names W) d.name → ⊥) → ObligationsHold W.functions d → Sound (add_definition d W)
+with_definition W sound basics d ok new owed =
     let F = W.functions in
     record {
       distinct = (new, sound.distinct);
       unlike_primitives = λ f i. by_test f (bytes_eq d.name f) refl i;
       formed = (ok, sound.formed);
-      total = flat_stays_total F sound.formed sound.total d ok flat;
+      total = stays_total F sound.formed sound.total d ok (λ _. basics) owed;
       later = later_definition initial_world W sound.later d;
       obligations = (
-        owes_nothing (λ s. FitsSequent (with_def F d) s × Holds (with_def F d) s) d flat,
+        each_zip (FitsSequent F) (Holds F) (λ s. FitsSequent (with_def F d) s × Holds (with_def F d) s) (λ s f h. (sequent_later F sound.formed d ok.fresh s f, holds_later F sound.formed d ok.fresh s f h)) (obligations d) (obligations_fit F sound.formed basics d ok) owed,
         each_to (λ e. AllHold F (obligations e)) (λ e. AllHold (with_def F d) (obligations e)) (λ e h. all_later F sound.formed d ok.fresh (obligations e) h) F.defs sound.obligations,
       );
       theorems = each_to _ (λ e. (e.1.hyps ≡ []) × FitsSequent (with_def F d) e.1 × Holds (with_def F d) e.1) (λ e h. (h.0, sequent_later F sound.formed d ok.fresh e.1 h.1, holds_later F sound.formed d ok.fresh e.1 h.1 h.2)) W.theorems sound.theorems;

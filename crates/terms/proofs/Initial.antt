@@ -13,12 +13,10 @@ use Rattle.terms.specs.BuiltIn.{x, len_def, true_listp_def, binary_append_def, t
 use Rattle.terms.specs.InitialTheorems.{equal_same, count_car, count_cdr, natp_count, natp_nfix, natp_minus_1, nfix_minus_1, count_minus_1, initial_theorems}
 use Rattle.terms.specs.Formed.{functions, AllFormed, HasBasics}
 use Rattle.terms.specs.Sound.{Sound, AllHold, initial_world}
-use Rattle.terms.specs.Laws.{WorldsGrow}
 use Rattle.terms.proofs.Basics.{t_not_nil}
 use Rattle.terms.proofs.Totality.{stays_total}
 use Rattle.terms.proofs.LaterSteps.{later_self}
-use Rattle.terms.proofs.Growth.{flat_stays_total, with_definition, with_theorem}
-use Rattle.terms.proofs.MoreEntries.{with_variable, with_specification, with_event}
+use Rattle.terms.proofs.Growth.{flat_stays_total}
 use Rattle.terms.proofs.BuiltInTests.{none_recursive, formed_all, distinct, each_in}
 use Rattle.terms.proofs.Standard.{operates, basics_table, IsTruth, Obeys, basics_obey, truth_fits, truth_holds}
 use Rattle.terms.proofs.InitialTheorems.{smaller_cdr, natural_is, initial_table, initial_obeys, equal_same_true, count_car_true, count_cdr_true, natp_count_true, natp_nfix_true, natp_minus_1_true, nfix_minus_1_true, count_minus_1_true}
@@ -182,14 +180,4 @@ initial_sound = record {
   theorems = theorems_hold;
   specifications = tt;
   isos = tt;
-}
-
-pub worlds_grow : WorldsGrow
-worlds_grow = record {
-  begins = initial_sound;
-  definition = with_definition;
-  variable = with_variable;
-  theorem = with_theorem;
-  specification = with_specification;
-  event = with_event;
 }

@@ -19,3 +19,4 @@ pub mod Standard
 pub mod InitialTheorems
 pub mod Initial
 pub mod Later
+pub mod WorldsGrow

@@ -7,17 +7,20 @@ use Rattle.terms.specs.Terms.{Tm}
 use Rattle.terms.specs.declared.definition.Definition.{Definition}
 use Rattle.terms.specs.declared.sequent.Sequent.{Sequent}
 use Rattle.terms.specs.declared.entries.Specification.{Specification}
+use Rattle.terms.specs.declared.entries.Iso.{Iso}
+use Rattle.terms.specs.declared.entries.FunPair.{FunPair}
+use Rattle.terms.specs.declared.entries.Link.{Link}
 use Rattle.terms.specs.Definitions.{find, Interp}
 use Rattle.terms.specs.Evaluation.{resolve, variable, below, apply}
 use Rattle.terms.specs.Worlds.{names, Functions, World, FitsSequent, arity, arity_by, Fits, IsIn, TotalFor, Total, Holds}
 use Rattle.terms.specs.Measures.{obligations}
 use Rattle.terms.specs.Formed.{with_var, FitsOver, functions, AllFormed}
-use Rattle.terms.specs.Sound.{Sound, initial_world, AllHold, iso_conditions, add_variable, add_specification, add_event}
+use Rattle.terms.specs.Sound.{Sound, initial_world, AllHold, iso_conditions, add_variable, add_specification, add_iso, instance_of, add_instance, add_link, add_event}
 use Rattle.terms.proofs.Names.{same_name, name_self, name_apart}
 use Rattle.terms.proofs.Below.{Any}
 use Rattle.terms.proofs.Extend.{over_map}
 use Rattle.terms.proofs.Totality.{each_to}
-use Rattle.terms.proofs.LaterSteps.{later_variable, later_specification, later_event}
+use Rattle.terms.proofs.LaterSteps.{later_variable, later_specification, later_iso, later_instance, later_link, later_event}
 use Rattle.terms.proofs.Growth.{Inserted, inserted_here, inserted_after, free_primitive}
 
 no_function : (p : Option Operation) (q : Option Definition) (r : Option ℕ) → arity_by p q r ≡ None → (p ≡ None) × (q ≡ None) × (r ≡ None)
@@ -162,6 +165,48 @@ with_event W sound e = record {
   formed = sound.formed;
   total = sound.total;
   later = later_event initial_world W sound.later e;
+  obligations = sound.obligations;
+  theorems = sound.theorems;
+  specifications = sound.specifications;
+  isos = sound.isos;
+}
+
+pub with_iso : (W : World) → Sound W → (i : Iso) → primitive i.name ≡ None → (IsIn (names W) i.name → ⊥) → AllHold W.functions (iso_conditions i) → Sound (add_iso i W)
+with_iso W sound i free new hold =
+    let more : Inserted i.name (names W) (names (add_iso i W)) =
+    inserted_after i.name (map (λ d. d.name) W.functions.defs) _ _ (inserted_after i.name (map (λ v. v.0) W.functions.vars) _ _ (inserted_after i.name (map (λ t. t.0) W.theorems) _ _ (inserted_after i.name (map (λ s. s.name) W.specifications) _ _ (inserted_here i.name (map (λ i. i.name) W.isos))))) in
+    record {
+      distinct = more.distinct sound.distinct new;
+      unlike_primitives = unlike_later i.name (names W) (names (add_iso i W)) more free sound.unlike_primitives;
+      formed = sound.formed;
+      total = sound.total;
+      later = later_iso initial_world W sound.later i;
+      obligations = sound.obligations;
+      theorems = sound.theorems;
+      specifications = sound.specifications;
+      isos = (hold, sound.isos);
+    }
+
+pub with_instance : (W : World) → Sound W → (of : Name) (pairs : List FunPair) (instance : Name) → Sound (add_instance of pairs instance W)
+with_instance W sound of pairs instance = record {
+  distinct = sound.distinct;
+  unlike_primitives = sound.unlike_primitives;
+  formed = sound.formed;
+  total = sound.total;
+  later = later_instance initial_world W sound.later (instance_of of pairs instance);
+  obligations = sound.obligations;
+  theorems = sound.theorems;
+  specifications = sound.specifications;
+  isos = sound.isos;
+}
+
+pub with_link : (W : World) → Sound W → (n : Name) (l : Link) → Sound (add_link n l W)
+with_link W sound n l = record {
+  distinct = sound.distinct;
+  unlike_primitives = sound.unlike_primitives;
+  formed = sound.formed;
+  total = sound.total;
+  later = later_link initial_world W sound.later n l;
   obligations = sound.obligations;
   theorems = sound.theorems;
   specifications = sound.specifications;

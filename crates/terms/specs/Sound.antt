@@ -1,11 +1,11 @@
 -- Sound worlds, and how they grow.
-use Rattle.std.specs.Prelude.{◌≡◌, ℕ, None, List, [], ◌∷◌, codes}
+use Rattle.std.specs.Prelude.{◌≡◌, ℕ, None, List, [], ◌∷◌, ◌++◌, codes}
 use Rattle.lisp_data.specs.Values.{Name}
 use Rattle.lisp_data.specs.Datum.{Datum}
 use Rattle.terms.specs.Primitives.{primitive}
 use Rattle.terms.specs.Terms.{Tm, Var}
 use Rattle.terms.specs.Measures.{call1, call2, obligations}
-use Rattle.terms.specs.Worlds.{World, Functions, Each, IsIn, Distinct, FitsSequent, Holds, Total, names}
+use Rattle.terms.specs.Worlds.{World, Instance, Functions, Each, IsIn, Distinct, FitsSequent, Holds, Total, names}
 use Rattle.terms.specs.BuiltIn.{initial_definitions}
 use Rattle.terms.specs.InitialTheorems.{initial_theorems}
 use Rattle.terms.specs.Formed.{with_def, with_var, AllFormed, FitsOver}
@@ -14,6 +14,8 @@ use Rattle.terms.specs.declared.definition.Definition.{Definition}
 use Rattle.terms.specs.declared.sequent.Sequent.{Sequent}
 use Rattle.terms.specs.declared.entries.Specification.{Specification}
 use Rattle.terms.specs.declared.entries.Iso.{Iso}
+use Rattle.terms.specs.declared.entries.FunPair.{FunPair}
+use Rattle.terms.specs.declared.entries.Link.{Link}
 
 -- each sequent is well formed in the world, and holds there
 abbrev pub AllHold : Functions → List Sequent → Type 0
@@ -77,3 +79,18 @@ add_specification s W = record W { specifications = s ∷ W.specifications }
 -- an event that was accepted
 abbrev pub add_event : Datum → World → World
 add_event e W = record W { events = e ∷ W.events }
+
+abbrev pub add_iso : Iso → World → World
+add_iso i W = record W { isos = i ∷ W.isos }
+
+-- a function's instance for these pairs
+abbrev pub instance_of : Name → List FunPair → Name → Instance
+instance_of of pairs instance = record { of = of; pairs = pairs; instance = instance }
+
+-- a function's instance, after the others
+abbrev pub add_instance : Name → List FunPair → Name → World → World
+add_instance of pairs instance W = record W { instances = W.instances ++ instance_of of pairs instance ∷ [] }
+
+-- what a theorem says
+abbrev pub add_link : Name → Link → World → World
+add_link n l W = record W { links = (n, l) ∷ W.links }

@@ -3,12 +3,14 @@
 ghost use Rattle.std.specs.Prelude.{◌≡◌, IfOk, IfSome};
 ghost use Rattle.std.specs.Option.{option_copied, option_map};
 ghost use Rattle.lisp_data.specs.FormView.{form_of, IsProper};
-ghost use Rattle.terms.specs.Primitives.{lookup};
+ghost use Rattle.terms.specs.Primitives.{primitive, operands, lookup};
+ghost use Rattle.terms.specs.Worlds.{is_in};
 ghost use Rattle.terms.specs.Sound.{initial_world};
 ghost use Rattle.worlds.specs.EntryLists.{grown};
 ghost use Rattle.worlds.specs.Events.{has_event, find_defthm};
 ghost use Rattle.worlds.specs.Lookups.{find_instance};
 ghost use Rattle.worlds.specs.Named.{Tells};
+ghost use Rattle.worlds.specs.Names.{reserved};
 
 use crate::built_in::with_definitions;
 use crate::built_in_theorems::with_theorems;
@@ -16,14 +18,17 @@ use crate::entries::Entries;
 use crate::entry::event_key;
 use crate::index::Index;
 use crate::named::Named;
+use crate::names::Words;
 use lisp_data::{Form, Memory, Symbol};
 use std::alloc::Global;
 use std::marker::Model;
+use std::rc::Rc;
 use terms::{FunPairs, Link};
 
 /// A world with an index of all its entries. Contracts see it as a world.
 #[derive(Drop)]
 pub(crate) struct Sealed {
+    words: Rc<Words>,
     entries: Entries,
     index: Index,
 }
@@ -38,10 +43,11 @@ impl Model for Sealed {
 
     ghost use Rattle.worlds.specs.EntryLists.{grown, empty_world};
     ghost use Rattle.worlds.specs.Indexes.{Answers};
+    ghost use Rattle.worlds.specs.Words.{Knows};
 
     ghost view = { λ s. grown s.entries empty_world };
 
-    ghost invariant = { λ s. Answers s.index (grown s.entries empty_world) };
+    ghost invariant = { λ s. Answers s.index (grown s.entries empty_world) × Knows s.words.value };
 }
 
 impl Sealed {
@@ -53,7 +59,11 @@ impl Sealed {
         let entries = with_definitions(alloc, entries)?;
         let mut index = Index::new(alloc)?;
         index.add_all(alloc, &entries)?;
-        Ok(Sealed { entries, index })
+        Ok(Sealed {
+            words: Rc::new(alloc, Words::new(alloc)?)?,
+            entries,
+            index,
+        })
     }
 
     /// The world with more entries, the newest of them first.
@@ -63,13 +73,31 @@ impl Sealed {
         let entries = self.entries.with_all(alloc, recent)?;
         let mut index = self.index.copy()?;
         index.add_all(alloc, recent)?;
-        Ok(Sealed { entries, index })
+        Ok(Sealed {
+            words: self.words.clone()?,
+            entries,
+            index,
+        })
     }
 
     /// How many more entries a world may have before it is sealed anew: enough that all copies of indexes together
     /// take time in proportion to the entries, and few enough that the others are soon walked.
     pub(crate) fn distance(&self) -> usize {
         (self.index.len() / 64).max(128).min(4096)
+    }
+
+    /// The number of arguments of the primitive of this name.
+    pub(crate) fn operands(&self, name: &Symbol) -> Option<u32>
+        ensures { result ≡ option_map operands (primitive name.now) }
+    {
+        self.words.operands(name)
+    }
+
+    /// Whether the name is reserved (docs/BOOKS.md).
+    pub(crate) fn is_reserved(&self, name: &Symbol) -> bool
+        ensures { result ≡ is_in reserved name.now }
+    {
+        self.words.is_reserved(name)
     }
 
     /// What the name stands for, where it is no primitive's.

@@ -1,6 +1,6 @@
 use Rattle.std.proofs.Common.{◌∙◌, ◌++◌, ◌∷◌, [], sym, ap, subst}
 use Rattle.std.proofs.lemmas.List.{map_more}
-use Rattle.lisp_data.specs.FormView.{form_of, IsProper}
+use Rattle.lisp_data.specs.view.FormView.{form_of, IsProper}
 use Rattle.lisp_data.proofs.Proper.{proper-parts, some-copied, proper-end, proper-more}
 use Rattle.lisp_data.proofs.form.+copy.Goals as goal
 

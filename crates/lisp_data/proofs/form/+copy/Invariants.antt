@@ -1,5 +1,5 @@
 use Rattle.std.proofs.Common.{◌≡◌, map, take}
-use Rattle.lisp_data.specs.FormView.{form_of, forms_of, AllProper, AreProper}
+use Rattle.lisp_data.specs.view.FormView.{form_of, forms_of, AllProper, AreProper}
 use Rattle.lisp_data.proofs.form.+copy.Given as goal
 
 abbrev pub invariant-Forms::copy-loop-item : goal.invariant-Forms::copy-loop-item

@@ -1,6 +1,6 @@
 use Rattle.std.proofs.Common.{◌≡◌, ◌∙◌, sym, ap, subst, get_or, arith}
 use Rattle.std.proofs.lemmas.List.{get_or_default}
-use Rattle.lisp_data.specs.FormView.{form_of, IsProper, AllProper}
+use Rattle.lisp_data.specs.view.FormView.{form_of, IsProper, AllProper}
 use Rattle.lisp_data.proofs.Same.{text-same, texts-alike, parts-alike, ends-alike, ends-apart, items-alike}
 use Rattle.lisp_data.proofs.Proper.{proper-at}
 use Rattle.lisp_data.proofs.form.+same.Goals as goal

@@ -2,7 +2,7 @@ use Rattle.std.proofs.Common.{◌≡◌, ◌≤◌, length, drop, map}
 use Rattle.lisp_data.specs.Values.{IsSmall}
 use Rattle.lisp_data.specs.ValueView.{val_of}
 use Rattle.lisp_data.specs.FormView.{form_of}
-use Rattle.lisp_reader.specs.FormValue.{value_before}
+use Rattle.lisp_reader.specs.view.Building.{value_before}
 use Rattle.lisp_reader.proofs.value.+build.Given as goal
 
 abbrev pub invariant-build_before-items : goal.invariant-build_before-items

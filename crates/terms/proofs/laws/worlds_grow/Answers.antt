@@ -1,4 +1,4 @@
-use Rattle.terms.proofs.Initial.{worlds_grow}
+use Rattle.terms.proofs.WorldsGrow.{worlds_grow}
 use Rattle.terms.proofs.laws.worlds_grow.Goals as goal
 
 pub returns : goal.returns

@@ -1,5 +1,5 @@
 use Rattle.std.proofs.Common.{subst, List, IfSome}
-use Rattle.lisp_data.specs.FormView.{AllProper, IsProper}
+use Rattle.lisp_data.specs.view.FormView.{AllProper, IsProper}
 use Rattle.lisp_data.specs.declared.form.Form.{Form}
 use Rattle.lisp_data.proofs.Proper.{found-proper}
 use Rattle.lisp_data.proofs.form.Forms.get.Goals as goal

@@ -3,7 +3,7 @@ use Rattle.std.proofs.lemmas.Result.{err_from_is_err_and}
 use Rattle.lisp_data.specs.Datum.{chain}
 use Rattle.lisp_data.specs.FormView.{form_of, forms_of}
 use Rattle.lisp_reader.specs.Grammar.{Got, mapped, quote_form}
-use Rattle.lisp_reader.specs.TokenView.{seen, IsWithin}
+use Rattle.lisp_reader.specs.view.TokenView.{seen, IsWithin}
 use Rattle.lisp_reader.specs.declared.token.Token.{Token}
 use Rattle.lisp_reader.proofs.Steps.{form-behind, says-same}
 use Rattle.lisp_reader.proofs.Items.{list_at, list-item, list-point, tail-behind, tail-join, tail-form, mapped-place, mapped-fault, fault-same}

@@ -1,7 +1,7 @@
 use Rattle.std.proofs.Common.{◌≡◌, ◌<◌, ◌≤◌, length}
 use Rattle.lisp_data.specs.Datum.{nil_form}
 use Rattle.lisp_reader.specs.Grammar.{Got}
-use Rattle.lisp_reader.specs.Closes.{closed}
+use Rattle.lisp_reader.specs.view.Closes.{closed}
 use Rattle.lisp_reader.proofs.read.Input.closings.Given as goal
 
 abbrev pub invariant-lists : goal.invariant-lists

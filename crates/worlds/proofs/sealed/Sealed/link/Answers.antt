@@ -7,4 +7,4 @@ use Rattle.worlds.proofs.sealed.Sealed.link.Goals as goal
 pub returns : goal.returns
 returns c =
     c.link.ensures ∙ ap (first (λ e. link_of e c.args.theorem.now)) c.at.ensures
-    ∙ (c.self.invariant.at c.args.theorem.now).links ∙ ap (λ W. lookup W.links c.args.theorem.now) c.self.view_is
+    ∙ (c.self.invariant.0.at c.args.theorem.now).links ∙ ap (λ W. lookup W.links c.args.theorem.now) c.self.view_is

@@ -8,5 +8,5 @@ pub returns : goal.returns
 returns c =
     let n = c.args.name.now in
     let bucket = bucket_at c.self.inside.index n in
-    told n bucket c.args.self.now (subst (AgreeAt n bucket) c.self.view_is (c.self.invariant.at n)) c.named.result
+    told n bucket c.args.self.now (subst (AgreeAt n bucket) c.self.view_is (c.self.invariant.0.at n)) c.named.result
     (subst (λ es. Gives n es c.named.result) c.at.ensures c.named.ensures)

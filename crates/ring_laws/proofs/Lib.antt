@@ -1,0 +1,10 @@
+pub mod Integers
+pub mod Sums
+pub mod Multisets
+pub mod Values
+pub mod Soundness
+pub mod Parts
+pub mod Support
+pub mod Maps
+pub mod Exponents
+pub mod Expansions

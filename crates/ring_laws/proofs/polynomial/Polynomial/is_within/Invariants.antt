@@ -1,0 +1,11 @@
+use Rattle.std.proofs.Common.{◌≡◌, bytes_eq}
+use Rattle.std.specs.List.{list_all}
+use Rattle.std.specs.Ordering.{int_eq}
+use Rattle.ring_laws.specs.FormalSums.{coefficient}
+use Rattle.ring_laws.specs.Held.{held}
+use Rattle.ring_laws.proofs.polynomial.Polynomial.is_within.Given as goal
+
+abbrev pub invariant-loop-exponents : goal.invariant-loop-exponents
+invariant-loop-exponents l =
+    list_all (λ e. int_eq (coefficient bytes_eq (held l.self.terms.entries) e.0) (coefficient bytes_eq (held l.other.terms.entries) e.0)) (held l.exponents-iterator)
+    ≡ list_all (λ e. int_eq (coefficient bytes_eq (held l.self.terms.entries) e.0) (coefficient bytes_eq (held l.other.terms.entries) e.0)) (held l.self.terms.entries)

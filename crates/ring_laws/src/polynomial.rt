@@ -1,0 +1,155 @@
+//! Polynomials: monomials by their exponents, with coefficients.
+
+ghost use Rattle.std.specs.Prelude.{◌≡◌, [], ◌∷◌, ◌++◌, pos, length, not, IfOk, OnOk, bytes_eq};
+ghost use Rattle.std.specs.List.{list_all, filter};
+ghost use Rattle.std.specs.BTreeMap.{values};
+ghost use Rattle.std.specs.Ordering.{int_eq};
+ghost use Rattle.ring_laws.specs.FormalSums.{coefficient, coefficients_agree, support, negated, times_each, products};
+ghost use Rattle.ring_laws.specs.Held.{held, together, SameSum};
+
+use crate::atoms::together;
+use lists::Memory;
+use std::alloc::Global;
+use std::collections::BTreeMap;
+
+/// Monomials by their exponents, with their coefficients, some of which may be 0.
+pub(crate) struct Polynomial {
+    terms: BTreeMap<Vec<u32>, i128>,
+}
+
+impl Drop for Polynomial {
+    fn drop(self) {
+        let Polynomial { terms: _ } = self;
+    }
+}
+
+impl Polynomial {
+    pub(crate) fn zero(alloc: Global) -> Polynomial
+        ensures { held result.terms.entries ≡ [] }
+    {
+        Polynomial {
+            terms: BTreeMap::new(alloc),
+        }
+    }
+
+    /// The coefficient at these exponents.
+    #[tactic(auto, using(crate::proofs::Maps::maps))]
+    fn coefficient(&self, exponents: &Vec<u32>) -> i128
+        ensures { result ≡ coefficient bytes_eq (held self.now.terms.entries) exponents.now.items }
+    {
+        let _entries = self.terms.len();
+        match self.terms.get(exponents) {
+            Some(factor) => *factor,
+            None => 0,
+        }
+    }
+
+    /// Adds a monomial. `Memory` comes also where the sum doesn't fit, which no sum within a norm does.
+    pub(crate) fn add(&mut self, exponents: Vec<u32>, factor: i128) -> Result<(), Memory>
+        ensures { OnOk result (SameSum (held self.new.terms.entries) ((exponents.items, factor) ∷ held self.old.terms.entries)) }
+    {
+        if factor == 0 {
+            return Ok(());
+        }
+        let Some(sum) = self.coefficient(&exponents).checked_add(factor) else {
+            return Err(Memory);
+        };
+        let _entries = self.terms.len();
+        self.terms.insert(exponents, sum)?;
+        Ok(())
+    }
+
+    /// Adds another polynomial, times a monomial.
+    fn add_times(
+        &mut self,
+        alloc: Global,
+        exponents: &[u32],
+        factor: &i128,
+        other: &Polynomial,
+    ) -> Result<(), Memory>
+        ensures { OnOk result (SameSum (held self.new.terms.entries) (held self.old.terms.entries ++ times_each together (exponents.now, factor.now) (held other.now.terms.entries))) }
+    {
+        for (others, other_factor) in &other.terms {
+            let Some(product) = factor.checked_mul(*other_factor) else {
+                return Err(Memory);
+            };
+            self.add(together(alloc, exponents, others.as_slice())?, product)?;
+        }
+        Ok(())
+    }
+
+    /// The sum of the two.
+    pub(crate) fn plus(self, alloc: Global, other: Polynomial) -> Result<Polynomial, Memory>
+        ensures { IfOk result (λ p. SameSum (held p.terms.entries) (held self.terms.entries ++ held other.terms.entries)) }
+    {
+        if self.terms.len() < other.terms.len() {
+            other.with(alloc, &self)
+        } else {
+            self.with(alloc, &other)
+        }
+    }
+
+    fn with(mut self, alloc: Global, other: &Polynomial) -> Result<Polynomial, Memory>
+        ensures { IfOk result (λ p. SameSum (held p.terms.entries) (held self.terms.entries ++ held other.now.terms.entries)) }
+    {
+        self.add_times(alloc, &[], &1, other)?;
+        Ok(self)
+    }
+
+    pub(crate) fn negated(&self, alloc: Global) -> Result<Polynomial, Memory>
+        ensures { IfOk result (λ p. SameSum (held p.terms.entries) (negated (held self.now.terms.entries))) }
+    {
+        let mut opposite = Polynomial::zero(alloc);
+        opposite.add_times(alloc, &[], &-1, self)?;
+        Ok(opposite)
+    }
+
+    pub(crate) fn times(&self, alloc: Global, other: &Polynomial) -> Result<Polynomial, Memory>
+        ensures { IfOk result (λ p. SameSum (held p.terms.entries) (products together (held self.now.terms.entries) (held other.now.terms.entries))) }
+    {
+        let mut product = Polynomial::zero(alloc);
+        for (exponents, factor) in &self.terms {
+            product.add_times(alloc, exponents.as_slice(), factor, other)?;
+        }
+        Ok(product)
+    }
+
+    /// How many monomials have a coefficient other than 0.
+    pub(crate) fn size(&self) -> usize
+        ensures { result ≡ length (support bytes_eq (held self.now.terms.entries)) }
+    {
+        let _entries = self.terms.len();
+        self.count()
+    }
+
+    fn count(&self) -> usize
+        ensures { result ≡ length (filter (λ z. not (int_eq z (pos 0))) (values self.now.terms)) }
+    {
+        let mut count = 0;
+        for factor in self.terms.values() {
+            if *factor != 0 {
+                count += 1;
+            }
+        }
+        count
+    }
+
+    /// Whether the coefficients are equal.
+    pub(crate) fn same(&self, other: &Polynomial) -> bool
+        ensures { result ≡ coefficients_agree bytes_eq (held self.now.terms.entries) (held other.now.terms.entries) }
+    {
+        self.is_within(other) && other.is_within(self)
+    }
+
+    /// Whether the other one has this one's coefficients at this one's monomials.
+    fn is_within(&self, other: &Polynomial) -> bool
+        ensures { result ≡ list_all (λ e. int_eq (coefficient bytes_eq (held self.now.terms.entries) e.0) (coefficient bytes_eq (held other.now.terms.entries) e.0)) (held self.now.terms.entries) }
+    {
+        for (exponents, _factor) in &self.terms {
+            if self.coefficient(exponents) != other.coefficient(exponents) {
+                return false;
+            }
+        }
+        true
+    }
+}
