@@ -93,7 +93,7 @@ impl Sealed {
         self.words.operands(name)
     }
 
-    /// Whether the name is reserved (docs/BOOKS.md).
+    /// Whether the name is reserved (docs/SYNTAX.md, "Names").
     pub(crate) fn is_reserved(&self, name: &Symbol) -> bool
         ensures { result ≡ is_in reserved name.now }
     {
