@@ -141,8 +141,7 @@ pub(crate) fn read_keys(
         }
         [key, value, rest @ ..] => {
             let seen = with_key(alloc, kind, seen, key, value)?;
-            let keys = read_keys(alloc, kind, seen, rest)?;
-            Ok(keys)
+            read_keys(alloc, kind, seen, rest)
         }
     }
 }

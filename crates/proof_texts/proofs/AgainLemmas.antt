@@ -122,8 +122,8 @@ module _ (W : World) (apart : WordsApart (arity W.functions)) where
   images-again : (before s : Pairs) → AreImages W before s → with_pairs W before (map image_form s) ≡ Ok (before ++ s)
   images-again before [] h = ap Ok (sym (append-nil before))
   images-again before (e ∷ s) h =
-      (λ i. and_then (and_then (variable-again before e.0 h.0 h.1.0 i) (λ x. map_outcome (λ t. before ++ (x, t) ∷ []) (term-again e.1 h.1.1.0 i))) (λ z. with_pairs W z (map image_form s)))
-      ∙ images-again (before ++ e ∷ []) s h.1.1.1 ∙ ap Ok (append_assoc before (e ∷ []) s)
+      (λ i. and_then (and_then (variable-again before e.0 h.0 h.1 i) (λ x. map_outcome (λ t. before ++ (x, t) ∷ []) (term-again e.1 h.2 i))) (λ z. with_pairs W z (map image_form s)))
+      ∙ images-again (before ++ e ∷ []) s h.3 ∙ ap Ok (append_assoc before (e ∷ []) s)
 
   substitution-again : (s : Pairs) → IsSubstitution W s → substitution_of W (substitution_form s) ≡ Ok s
   substitution-again s h = list_of-again (map image_form s) (with_pairs W []) ∙ images-again [] s h
@@ -135,8 +135,8 @@ module _ (W : World) (apart : WordsApart (arity W.functions)) where
 
   pair-again : (p : FunPair) → IsPair W p → function_pair W (pair_form p) ≡ Ok p
   pair-again p h =
-      ap (λ b. and_then (or_bad (if b then None else Some (p.variable, p.function))) (pair_of_names W)) h.1.1
-      ∙ (λ i. and_then (function-again p.variable h.0 i) (λ v. map_outcome (λ f. record { variable = v; function = f }) (function-again p.function h.1.0 i)))
+      ap (λ b. and_then (or_bad (if b then None else Some (p.variable, p.function))) (pair_of_names W)) h.2
+      ∙ (λ i. and_then (function-again p.variable h.0 i) (λ v. map_outcome (λ f. record { variable = v; function = f }) (function-again p.function h.1 i)))
 
   part-again : (fs : List Datum) (r : Read) (k : Kind) (p : Part) → IsPart W k p → part_at W r k (part_form fs p) ≡ Ok (with_part r p)
   part-again fs r kind.Term (part.Term t) h = ap (map_outcome (λ t. with_part r (part.Term t))) (term-again t h)

@@ -2,9 +2,10 @@ ghost use Rattle.std.specs.Prelude.{IfOk};
 ghost use Rattle.lisp_data.specs.FormView.{IsProper};
 
 use super::*;
-use lisp_data::{Code, Detail, Form, Forms, Seq, Symbol, Text};
+use lisp_data::{Code, Form, Forms, Seq, Symbol, Text};
 use proof_objects::{Proof, Rule, Step};
 use std::alloc::Global;
+use std::process::Abort;
 use std::test::Fail;
 use terms::{Path, Term, Terms};
 use worlds::World;
@@ -57,21 +58,31 @@ fn text_of_one(alloc: Global, word: &str) -> Result<Form, Fail>
 }
 
 #[test]
-fn reads_a_proof_or_says_why_not(rt: HostRuntime) -> Result<(), Fail> {
-    let alloc = rt.alloc();
-    let world = World::initial(alloc)?;
-    for (word, code) in [
-        (":refl", None),
-        (":eval", Some(Code::NotAnEvent)),
-        (":replace", Some(Code::BadForm)),
-    ] {
-        match read_proof(alloc, &world, &text_of_one(alloc, word)?) {
-            Ok(proof) => {
-                assert_eq!(rt; code, None);
-                assert_eq!(rt; proof.node().step.rule(), Rule::Refl);
-            }
-            Err(ProofError::Refused { code: given, .. }) => assert_eq!(rt; Some(given), code),
-            Err(ProofError::Memory) => assert!(rt; false),
+fn reads_a_proof(rt: HostRuntime) -> Result<(), Fail> {
+    let world = World::initial(rt.alloc())?;
+    let form = text_of_one(rt.alloc(), ":refl")?;
+    match read_proof(rt.alloc(), &world, &form) {
+        Ok(proof) => assert_eq!(rt; proof.node().step.rule(), Rule::Refl),
+        Err(_) => assert!(rt; false),
+    }
+    Ok(())
+}
+
+fn assert_refused(rt: &impl Abort, error: &ProofError, code: Code) {
+    match error {
+        ProofError::Refused { code: given, .. } => assert_eq!(rt; *given, code),
+        ProofError::Memory => assert!(rt; false),
+    }
+}
+
+#[test]
+fn says_why_a_text_is_no_proof(rt: HostRuntime) -> Result<(), Fail> {
+    let world = World::initial(rt.alloc())?;
+    for (word, code) in [(":eval", Code::NotAnEvent), (":replace", Code::BadForm)] {
+        let form = text_of_one(rt.alloc(), word)?;
+        match read_proof(rt.alloc(), &world, &form) {
+            Ok(_) => assert!(rt; false),
+            Err(error) => assert_refused(&rt, &error, code),
         }
     }
     Ok(())
