@@ -1,16 +1,21 @@
 -- What the handling of an event rests on.
-use Rattle.std.proofs.Common.{◌≡◌, List, [], ◌++◌, Ok, sym, subst}
+use Rattle.std.proofs.Common.{◌≡◌, List, [], ◌++◌, Ok, ap, sym, ◌∙◌, subst}
+use Rattle.std.proofs.lemmas.List.{append-nil}
 use Rattle.terms.specs.Worlds.{World}
 use Rattle.terms.specs.Sound.{Sound}
+use Rattle.terms.specs.declared.sequent.Sequent.{Sequent}
+use Rattle.term_forms.specs.Translation.{Outcome}
+use Rattle.kernel.specs.Conclusion.{Conclusion}
 use Rattle.plans.specs.declared.plan.Condition.{Condition}
 use Rattle.plans.specs.declared.plan.Entry.{Entry}
 use Rattle.plans.specs.declared.plan.Plan.{Plan}
 use Rattle.events.specs.declared.clauses.Way.{Way}
-use Rattle.plans.specs.Entries.{AdmitsAll}
-use Rattle.events.specs.Frames.{Clauses}
-use Rattle.events.specs.Halts.{joined}
-use Rattle.plans.specs.Plans.{IsLawfulPlan}
-use Rattle.events.specs.Verdicts.{ways, all_proved}
+use Rattle.plans.specs.Entries.{AdmitsAll, add_entries, add_functions}
+use Rattle.plans.specs.Proving.{ProvesAll, owed_before, sequents}
+use Rattle.events.specs.Frames.{Judged, Clauses, coded, goes_on}
+use Rattle.events.specs.Halts.{IsMade, AreProvedAfter, joined}
+use Rattle.plans.specs.Plans.{IsLawfulPlan, IsDirect}
+use Rattle.events.specs.Verdicts.{of_conditions, ways, all_proved, proved}
 use Rattle.events.proofs.Inversions.{map_ok}
 use Rattle.events.proofs.Accepted.{conditions_hold}
 
@@ -28,3 +33,31 @@ admitted W V sound p lawful clauses cs old ws us es cs_is old_is e us_is h V_is 
     admits W sound p lawful clauses ws (subst (λ (o : List Way). joined o (ways W clauses p.conditions) ≡ Ok ws) old_is (subst (λ (ks : List Condition). joined old (ways W clauses ks) ≡ Ok ws) cs_is e))
     (subst (λ (vs : List Way). all_proved W p.conditions vs ≡ Ok (tt {0})) us_is (subst (λ (ks : List Condition). all_proved W ks us ≡ Ok (tt {0})) cs_is h)) in
     subst (λ (X : World). AdmitsAll X es) (sym V_is) (subst (λ (xs : List Entry). AdmitsAll W xs) (sym es_is) all)
+
+-- a plan whose conditions are proved passes its checks
+pub carried : (W : World) (p : Plan) (clauses : Clauses) (cs : List Condition) (old ws us : List Way) → cs ≡ p.conditions → of_conditions cs clauses ≡ Ok (tt {0}) → old ≡ [] → joined old (ways W clauses cs) ≡ Ok ws → us ≡ ws → all_proved W cs us ≡ Ok (tt {0}) → proved W clauses p ≡ Ok p
+carried W p clauses cs old ws us cs_is named old_is e us_is h =
+    let named' : of_conditions p.conditions clauses ≡ Ok (tt {0}) = subst (λ (ks : List Condition). of_conditions ks clauses ≡ Ok (tt {0})) cs_is named in
+    let e' : joined [] (ways W clauses p.conditions) ≡ Ok ws =
+    subst (λ (o : List Way). joined o (ways W clauses p.conditions) ≡ Ok ws) old_is (subst (λ (ks : List Condition). joined old (ways W clauses ks) ≡ Ok ws) cs_is e) in
+    let h' : all_proved W p.conditions ws ≡ Ok (tt {0}) =
+    subst (λ (vs : List Way). all_proved W p.conditions vs ≡ Ok (tt {0})) us_is (subst (λ (ks : List Condition). all_proved W ks us ≡ Ok (tt {0})) cs_is h) in
+    let m = map_ok (ways W clauses p.conditions) (λ ys. [] ++ ys) ws e' in
+    ap (λ (o : Outcome (Unit {0})). goes_on (coded o) (λ _. goes_on (coded (ways W clauses p.conditions)) (λ vs. goes_on (all_proved W p.conditions vs) (λ _. Ok p)))) named'
+    ∙ ap (λ (o : Outcome (List Way)). goes_on (coded o) (λ vs. goes_on (all_proved W p.conditions vs) (λ _. Ok p))) (m.1 ∙ ap Ok m.2)
+    ∙ ap (λ (o : Judged (Unit {0})). goes_on o (λ _. Ok p)) h'
+
+-- what it makes, with the proofs of its conditions
+pub made_by : (W V next : World) (p : Plan) (cs : List Condition) (us : List Way) (start before after : List Conclusion) (es : List Entry) → IsDirect p → cs ≡ p.conditions → start ≡ [] → AreProvedAfter W cs us start before → V ≡ W → es ≡ p.entries → next ≡ add_entries es V → after ≡ [] → IsMade W p (record { world = next; proofs = record { before = before; after = after } })
+made_by W V next p cs us start before after es direct cs_is start_is it V_is es_is next_is after_is =
+    let before_is : it.further ≡ before = sym (it.joined ∙ ap (λ xs. xs ++ it.further) start_is) in
+    let owed : sequents p.conditions ≡ owed_before p = sym (ap (λ ss. sequents p.conditions ++ ss) direct.before ∙ append-nil (sequents p.conditions)) in
+    let U = add_functions p.entries W in
+    record {
+      world = next_is ∙ ap (λ xs. add_entries xs V) es_is ∙ ap (add_entries p.entries) V_is;
+      proved = record {
+        before = subst (λ (ss : List Sequent). ProvesAll W ss before) owed
+            (subst (λ (ps : List Conclusion). ProvesAll W (sequents p.conditions) ps) before_is (subst (λ (ks : List Condition). ProvesAll W (sequents ks) it.further) cs_is it.proofs));
+        after = subst (λ (ss : List Sequent). ProvesAll U ss after) (sym direct.after) (subst (λ (ps : List Conclusion). ProvesAll U [] ps) (sym after_is) tt);
+      };
+    }

@@ -7,8 +7,8 @@ use crate::halt::Halt;
 use crate::handle::ProvedList;
 use crate::refusal::Refusal;
 use kernel::{CheckError, Proved, RuleName, check};
-use plans::{Condition, proves};
 use lisp_data::Code;
+use plans::{Condition, proves};
 use std::alloc::Global;
 use worlds::World;
 

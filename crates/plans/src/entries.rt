@@ -65,7 +65,11 @@ fn with_entry(alloc: Global, world: &World, entry: &Entry) -> Result<World, Memo
         Entry::Instance(of, pairs, instance) => {
             world.with_instance(alloc, of.share()?, pairs.copy(alloc)?, instance.share()?)
         }
-        Entry::Chained(theorem, link) => world.with_link(alloc, theorem.share()?, link.copy(alloc)?),
+        Entry::Chained(theorem, link) => world.with_link(
+            alloc,
+            theorem.share()?,
+            link.copy(alloc)?,
+        ),
     }
 }
 
