@@ -6,4 +6,3 @@ pub mod Counted
 pub mod Lawful
 pub mod HandleLemmas
 pub mod StepLemmas
-pub mod Stopped

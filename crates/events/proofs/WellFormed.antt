@@ -26,7 +26,7 @@ use Rattle.proof_texts.specs.Parts.{any}
 use Rattle.events.specs.declared.definitions.TheConstants.{MAX_FORMALS}
 use Rattle.events.proofs.Inversions.{then_ok, map_ok, if_ok, unless_ok}
 use Rattle.lisp_data.specs.declared.code.Code.TheVariants as code
-use Rattle.events.specs.Definitions.{ names_of, distinct, formals_of, with_own, function, unless_recursive, body_of, definition_of, new_name}
+use Rattle.events.specs.Definitions.{names_of, distinct, formals_of, with_own, function, unless_recursive, body_of, definition_of, new_name}
 
 in_list : (ys : List Name) (x : Name) → is_in ys x ≡ true → IsIn ys x
 in_list [] x e = cc

@@ -6,10 +6,10 @@ ghost use Rattle.events.specs.Verdicts as spec;
 ghost use Rattle.events.specs.Halts.{Reads, clauses_seen, AreProper, joined};
 
 use crate::halt::Halt;
-use proof_texts::read_proof;
 use lisp_data::{Code, Form, Seq, Symbol};
 use plans::Condition;
 use proof_objects::Proof;
+use proof_texts::read_proof;
 use std::alloc::Global;
 use worlds::World;
 

@@ -70,12 +70,7 @@ impl Made {
 }
 
 /// Proves the conditions of a plan, and makes what it plans.
-fn carry_out(
-    alloc: Global,
-    world: &World,
-    plan: &Plan,
-    clauses: &Clauses<'_>,
-) -> Result<Made, Halt>
+fn carry_out(alloc: Global, world: &World, plan: &Plan, clauses: &Clauses<'_>) -> Result<Made, Halt>
     requires lawful { IsLawfulPlan world.now plan.now }
     requires direct { IsDirect plan.now }
     requires proper { AreProper clauses.now }

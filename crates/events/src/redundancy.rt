@@ -48,12 +48,7 @@ pub(crate) fn is_redundant(
 }
 
 /// Whether an earlier theorem of this name has a formula that stands for the same term.
-fn restates(
-    alloc: Global,
-    world: &World,
-    name: &Symbol,
-    formula: &Form,
-) -> Result<bool, Memory>
+fn restates(alloc: Global, world: &World, name: &Symbol, formula: &Form) -> Result<bool, Memory>
     requires { IsProper formula.now }
     ensures { IfOk result (λ b. b ≡ spec.restates world.now (form_of formula.now) (find_defthm world.now.events name.now)) }
 {

@@ -11,7 +11,10 @@ use std::alloc::Global;
 /// Why a book or an event is refused (docs/REPORT.md, "Refusals").
 pub enum Refusal {
     /// A refusal by its code, and what it names.
-    Coded { code: Code, detail: Detail },
+    Coded {
+        code: Code,
+        detail: Detail,
+    },
     /// A condition's proof is wrong: its first node that concludes nothing, or its last node and the claim that it doesn't prove.
     ProofWrong {
         condition: Symbol,
@@ -85,12 +88,7 @@ fn node_text(alloc: Global, condition: &Symbol, node: u32) -> Result<Text, Memor
 }
 
 /// A condition, a node of its proof and the node's rule.
-fn rule_text(
-    alloc: Global,
-    condition: &Symbol,
-    node: u32,
-    rule: RuleName,
-) -> Result<Text, Memory>
+fn rule_text(alloc: Global, condition: &Symbol, node: u32, rule: RuleName) -> Result<Text, Memory>
     ensures { IfOk result (λ text. text ≡ spec.node_text condition.now node ++ (codes " " ++ spec.rule_word rule)) }
 {
     let mut text = node_text(alloc, condition, node)?;

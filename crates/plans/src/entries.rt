@@ -1,7 +1,7 @@
 //! The world with what a plan makes.
 
 ghost use Rattle.std.specs.Prelude.{◌≡◌, true, IfOk, IsErrOf, Ok};
-ghost use Rattle.terms.specs.Sound.{AllHold, iso_conditions, add_theorem, add_iso};
+ghost use Rattle.terms.specs.Sound.{AllHold, add_iso, add_theorem, iso_conditions};
 ghost use Rattle.worlds.specs.Names.{is_free};
 ghost use Rattle.plans.specs.Entries.{Admits, AdmitsAll, IsNewTheorem, add_entry, add_entries};
 
@@ -42,7 +42,7 @@ fn with_new_theorem(
 
 fn with_new_iso(alloc: Global, world: &World, iso: &Iso) -> Result<World, Memory>
     requires free { is_free world.now iso.now.name ≡ true }
-    requires holds { AllHold world.now.functions (iso_conditions iso.now) }
+    requires hold { AllHold world.now.functions (iso_conditions iso.now) }
     ensures { IfOk result (λ next. next ≡ add_iso iso.now world.now) }
 {
     let iso = iso.copy(alloc)?;
@@ -65,7 +65,11 @@ fn with_entry(alloc: Global, world: &World, entry: &Entry) -> Result<World, Memo
         Entry::Instance(of, pairs, instance) => {
             world.with_instance(alloc, of.share()?, pairs.copy(alloc)?, instance.share()?)
         }
-        Entry::Chained(theorem, link) => world.with_link(alloc, theorem.share()?, link.copy(alloc)?),
+        Entry::Chained(theorem, link) => world.with_link(
+            alloc,
+            theorem.share()?,
+            link.copy(alloc)?,
+        ),
     }
 }
 
