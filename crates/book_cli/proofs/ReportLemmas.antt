@@ -3,6 +3,7 @@ use Rattle.std.proofs.Common.{◌≡◌, ℕ, ◌+◌, ◌-◌, ◌≤◌, true,
 use Rattle.std.proofs.lemmas.List.{append-nil, take-append-le}
 use Rattle.std.proofs.Math.Seq.{take-append-add, take-length}
 use Rattle.lisp_data.specs.Datum.{Datum}
+use Rattle.lisp_data.specs.declared.code.Code.{Code}
 use Rattle.ports.specs.Streams.{Grows, GrowsByFront}
 use Rattle.ports.proofs.Streams.{Grows-trans}
 use Rattle.book_cli.specs.declared.progress.Progress.{Progress}
@@ -104,7 +105,7 @@ module _ (continues : Bool) (p q : Progress) (e : Datum × ℕ) (accepted : Bool
         ∙ ap (λ b. turn_lines continues p e ++ (if b then report_from continues (after p (verdict p.world e.0)) rest.0 rest.1 else [])) (stops_with h)
         ∙ append-nil (turn_lines continues p e)
 
-    accepts_first : (es : List (Datum × ℕ)) (end : Option (ℕ × ℕ)) → accepts p (e ∷ es) end ≡ (if is_refusal (verdict p.world e.0) then false else accepts (after p (verdict p.world e.0)) es end)
+    accepts_first : (es : List (Datum × ℕ)) (end : Option (Code × ℕ)) → accepts p (e ∷ es) end ≡ (if is_refusal (verdict p.world e.0) then false else accepts (after p (verdict p.world e.0)) es end)
     accepts_first es None = refl
     accepts_first es (Some fault) = same (is_refusal (verdict p.world e.0))
       where
@@ -178,7 +179,7 @@ module _ (all accepted : Bool) (before behind : Bool) where
       by_test false b h = refl
 
 -- where the events end
-module _ (continues : Bool) (p : Progress) (read : Read) (end : Option (ℕ × ℕ)) (last : read ≡ ([], end)) where
+module _ (continues : Bool) (p : Progress) (read : Read) (end : Option (Code × ℕ)) (last : read ≡ ([], end)) where
   pub report_ends : report_from continues p read.0 read.1 ≡ end_lines p end
   report_ends = ap (λ (r : Read). report_from continues p r.0 r.1) last
 
@@ -188,7 +189,7 @@ module _ (continues : Bool) (p : Progress) (read : Read) (end : Option (ℕ × �
 pub accepts_end : (p : Progress) (read : Read) → read ≡ ([], None) → accepts p read.0 read.1 ≡ true
 accepts_end p read last = ap (λ (r : Read). accepts p r.0 r.1) last
 
-pub accepts_fault : (p : Progress) (read : Read) (fault : ℕ × ℕ) → read ≡ ([], Some fault) → accepts p read.0 read.1 ≡ false
+pub accepts_fault : (p : Progress) (read : Read) (fault : Code × ℕ) → read ≡ ([], Some fault) → accepts p read.0 read.1 ≡ false
 accepts_fault p read fault last = ap (λ (r : Read). accepts p r.0 r.1) last
 
 pub one_line : (line : List ℕ) (lines : List (List ℕ)) → lines ≡ line ∷ [] → all_lines lines ≡ line

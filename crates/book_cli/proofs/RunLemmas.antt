@@ -8,6 +8,7 @@ use lib.Pointwise.{pointwise}
 use Rattle.ports.specs.Streams.{Grows, GrowsByFront}
 use Rattle.ports.specs.ReadAll.{IsWhole, IsCut}
 use Rattle.lisp_data.specs.Datum.{Datum}
+use Rattle.lisp_data.specs.declared.code.Code.{Code}
 use Rattle.lisp_reader.specs.Grammar.{parse, book_of}
 use Rattle.lisp_reader.proofs.Ends.{goes_on}
 use Rattle.book_cli.specs.declared.limits.TheConstants.{MAX_BOOK}
@@ -43,7 +44,7 @@ pub if_some : (o : Option (List ℕ)) (P Q : List ℕ → Type 0) → IfSome o P
 if_some None P Q h f = tt
 if_some (Some bytes) P Q h f = f bytes h
 
-accepts_to_end : (p : Progress) (es : List (Datum × ℕ)) (end : Option (ℕ × ℕ)) → accepts p es end ≡ true → end ≡ None
+accepts_to_end : (p : Progress) (es : List (Datum × ℕ)) (end : Option (Code × ℕ)) → accepts p es end ≡ true → end ≡ None
 accepts_to_end p es None h = refl
 accepts_to_end p es (Some fault) h = cc
 

@@ -2,6 +2,7 @@
 use Rattle.std.specs.Prelude.{◌≡◌, ℕ, ◌+◌, Bool, true, false, not, List, [], ◌∷◌, ◌++◌, Option, Some, None, Ok, Err, codes, if◌then◌else◌}
 use Rattle.std.specs.Fmt.{decimal}
 use Rattle.lisp_data.specs.Datum.{Datum}
+use Rattle.lisp_data.specs.declared.code.Code.{Code}
 use Rattle.lisp_data.specs.declared.detail.Detail.TheVariants.{Absent}
 use Rattle.lisp_reader.specs.Grammar.{book_of}
 use Rattle.terms.specs.Worlds.{World}
@@ -14,7 +15,7 @@ use Rattle.events.specs.Verdicts.{Verdict, Accepted, Redundant, Refused, verdict
 
 -- forms with the places of their first bytes, and the first fault with its place, or the end
 abbrev pub Read : Type 0
-Read = List (Datum × ℕ) × Option (ℕ × ℕ)
+Read = List (Datum × ℕ) × Option (Code × ℕ)
 
 -- before the first event
 abbrev pub begin : Progress
@@ -60,12 +61,12 @@ abbrev pub event_line : Progress → Datum × ℕ → List ℕ
 event_line p e = verdict_line (verdict p.world e.0) e (p.handled + 1)
 
 -- the lines at the end of what could be read
-abbrev pub end_lines : Progress → Option (ℕ × ℕ) → List ℕ
+abbrev pub end_lines : Progress → Option (Code × ℕ) → List ℕ
 end_lines p None = last_line p
 end_lines p (Some fault) = refused_line (p.handled + 1) (Coded fault.0 Absent) fault.1 ++ last_line p
 
 -- the report of these forms, from some progress on; it is asked for one that goes on after a refusal, or ends with it
-abbrev pub report_from : Bool → Progress → List (Datum × ℕ) → Option (ℕ × ℕ) → List ℕ
+abbrev pub report_from : Bool → Progress → List (Datum × ℕ) → Option (Code × ℕ) → List ℕ
 report_from continues p [] end = end_lines p end
 report_from continues p (e ∷ es) end =
     event_line p e
@@ -87,7 +88,7 @@ all_accepted p [] = true
 all_accepted p (e ∷ es) = if is_refusal (verdict p.world e.0) then false else all_accepted (after p (verdict p.world e.0)) es
 
 -- all was read, and no form is refused
-abbrev pub accepts : Progress → List (Datum × ℕ) → Option (ℕ × ℕ) → Bool
+abbrev pub accepts : Progress → List (Datum × ℕ) → Option (Code × ℕ) → Bool
 accepts p es None = all_accepted p es
 accepts p es (Some fault) = false
 

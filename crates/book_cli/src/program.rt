@@ -20,7 +20,10 @@ use std::alloc::Global;
 /// The words of a command, without the program's name.
 pub type Words = Seq<Text>;
 
-/// Reads the book, checks its events and writes the report (docs/BOOKS.md). It does all that the program does.
+/// The longest book, in bytes.
+const LIMIT: usize = 1_048_576;
+
+/// Reads the book, checks its events and writes the report (docs/REPORT.md). It does all that the program does.
 ///
 /// The old log and the new log aren't touched as yet.
 pub fn run<B: Source, L: Source, K: Sink, P: Sink>(

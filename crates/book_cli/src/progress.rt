@@ -1,3 +1,5 @@
+//! How far the events of a book were handled.
+
 use worlds::World;
 
 /// How far a run is: the world that the events have made, how many were handled, and how many of them count in the last line.

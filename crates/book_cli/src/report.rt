@@ -14,7 +14,7 @@ ghost use Rattle.book_cli.specs.Report.{all_lines, IsNext, event_line, turn_line
 use crate::progress::Progress;
 use crate::stop::Stop;
 use events::{Refusal, StepAnswer, refused_text, step};
-use lisp_data::Detail;
+use lisp_data::{Code, Detail};
 use lisp_reader::{FormReader, Located, ReadError};
 use lists::{Memory, Text};
 use ports::{Sink, put_all};
@@ -160,7 +160,7 @@ fn write_last<K: Sink>(alloc: Global, progress: &Progress, out: &mut K) -> Resul
 fn write_fault<K: Sink>(
     alloc: Global,
     progress: &Progress,
-    code: u8,
+    code: Code,
     place: u64,
     out: &mut K,
 ) -> Result<(), Stop>

@@ -1,3 +1,5 @@
+//! Exit statuses.
+
 ghost use Rattle.std.specs.Prelude.{◌≡◌};
 ghost use Rattle.book_cli.specs.Outcomes.{code_of, status_after};
 

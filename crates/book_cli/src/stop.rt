@@ -1,3 +1,5 @@
+//! What stops a report before its end.
+
 use lists::Memory;
 use ports::Failed;
 

@@ -1,4 +1,4 @@
-//! The words of a command, read by `clap` as one simple command (docs/BOOKS.md).
+//! The words of a command, read by `clap` as one simple command (docs/REPORT.md).
 
 ghost use Rattle.std.specs.Prelude.{◌≡◌, IfOk, IfErr, IsUtf8, map, option_map};
 ghost use Rattle.std.specs.List.{All};
@@ -63,7 +63,7 @@ pub fn print_usage<R: Eprint>(rt: &R) -> io::Result<()> {
     rt.eprintln(UsageFault)
 }
 
-/// What the words of a command ask for, without the program's name (docs/BOOKS.md).
+/// What the words of a command ask for, without the program's name (docs/REPORT.md).
 pub(crate) fn read_words(alloc: Global, words: &Seq<Text>) -> Result<ModeLine, WordsError>
     ensures mode { IfOk result (λ line. IsModeLine words.now) }
     ensures continues { IfOk result (λ line. line.continues ≡ continues words.now) }

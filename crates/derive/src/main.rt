@@ -1,4 +1,4 @@
-//! Checks a book of definitions and theorems, and writes a report of it (docs/BOOKS.md).
+//! Checks a book of definitions and theorems, and writes a report of it (docs/EVENTS.md).
 #![tactic(auto)]
 
 use book_cli::{Status, Words, print_usage, run};

@@ -10,8 +10,8 @@ ghost use Rattle.event_forms.specs.Refused.{Says};
 
 use crate::errors::EventError;
 use crate::keys::{Keyed, has_unbuilt, read_keys};
-use proof_texts::{is_word, items, symbol, text};
 use lisp_data::{Form, Symbols};
+use proof_texts::{is_word, items, symbol, text};
 use std::alloc::Global;
 
 #[tactic(auto, using(proof_texts::proofs::ItemLemmas::proper_at))]

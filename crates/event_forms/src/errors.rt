@@ -3,10 +3,10 @@
 use lisp_data::{Code, Detail, Memory, Symbol, Text};
 use std::alloc::Global;
 
-/// Why a form is no event (docs/BOOKS.md, "Events").
+/// Why a form is no event (docs/EVENTS.md).
 #[derive(Drop)]
 pub enum EventError {
-    /// The form is refused (docs/BOOKS.md, "Events").
+    /// The form is refused (docs/EVENTS.md).
     Refused { code: Code, detail: Detail },
     Memory,
 }

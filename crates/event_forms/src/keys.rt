@@ -9,8 +9,8 @@ ghost use Rattle.event_forms.specs.Keys as spec;
 ghost use Rattle.event_forms.specs.Refused.{Says};
 
 use crate::errors::EventError;
-use proof_texts::{contains, is_among, is_word, symbol};
 use lisp_data::{Form, Symbol, Symbols};
+use proof_texts::{contains, is_among, is_word, symbol};
 use std::alloc::Global;
 
 /// Where keys stand: in the declarations of a function, in a theorem, or behind the name of a book.
@@ -141,8 +141,7 @@ pub(crate) fn read_keys(
         }
         [key, value, rest @ ..] => {
             let seen = with_key(alloc, kind, seen, key, value)?;
-            let keys = read_keys(alloc, kind, seen, rest)?;
-            Ok(keys)
+            read_keys(alloc, kind, seen, rest)
         }
     }
 }

@@ -10,8 +10,8 @@ ghost use Rattle.event_forms.specs.ShapeView.{seen, HasProperParts};
 use crate::declarations::{body, declares_unbuilt};
 use crate::errors::EventError;
 use crate::keys::{Keyed, has_unbuilt, read_keys, value_of};
-use proof_texts::{is_among, is_word, items, symbol, text};
 use lisp_data::{Form, Symbol, Symbols};
+use proof_texts::{is_among, is_word, items, symbol, text};
 use std::alloc::Global;
 
 /// The parts of an event.
@@ -205,7 +205,7 @@ fn is_early_defthm(parts: &[Form]) -> bool
     }
 }
 
-/// The event that a form is, or the first refusal of its shape, which is read from left to right (docs/BOOKS.md, "Events").
+/// The event that a form is, or the first refusal of its shape, which is read from left to right (docs/EVENTS.md).
 pub fn read_event(alloc: Global, form: &Form) -> Result<Event<'_>, EventError>
     requires { IsProper form.now }
     ensures event { Says seen (spec.event_of (form_of form.now)) result }

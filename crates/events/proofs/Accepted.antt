@@ -36,22 +36,22 @@ module _ (W : World) (sound : Sound W) where
       by_end None is e' = absurd (cc)
       by_end (Some s) is e' = by_test s (proves s c.sequent) refl is e'
 
-  pub conditions_hold : (clauses : Clauses) (cs : List Condition) (ws : List Way) → ways W.functions clauses cs ≡ Ok ws → all_proved W cs ws ≡ Ok (tt {0}) → Each (λ c. Holds W.functions c.sequent) cs
+  pub conditions_hold : (clauses : Clauses) (cs : List Condition) (ws : List Way) → ways W clauses cs ≡ Ok ws → all_proved W cs ws ≡ Ok (tt {0}) → Each (λ c. Holds W.functions c.sequent) cs
   conditions_hold clauses [] ws e h = tt
   conditions_hold clauses (c ∷ cs) ws e h =
-      let p = then_ok (way_by W.functions (clause_of clauses.proofs c.name)) (λ w. map_outcome (λ ws. w ∷ ws) (ways W.functions clauses cs)) ws e in
-      let q = map_ok (ways W.functions clauses cs) (λ ws. p.0 ∷ ws) ws p.2 in
+      let p = then_ok (way_by W (clause_of clauses.proofs c.name)) (λ w. map_outcome (λ ws. w ∷ ws) (ways W clauses cs)) ws e in
+      let q = map_ok (ways W clauses cs) (λ ws. p.0 ∷ ws) ws p.2 in
       let g = goes_ok (by_way W c p.0) (λ _. all_proved W cs q.0) tt (subst (λ ws. all_proved W (c ∷ cs) ws ≡ Ok (tt {0})) (sym q.2) h) in
       (condition_holds c p.0 g.1, conditions_hold clauses cs q.0 q.1 g.2)
 
   -- the plan of an event whose conditions are proved
   proved_plan : (clauses : Clauses) (p q : Plan) → proved W clauses p ≡ Ok q → (p ≡ q) × Each (λ c. Holds W.functions c.sequent) p.conditions
   proved_plan clauses p q e =
-      let a = goes_ok (coded (of_conditions p.conditions clauses)) (λ _. goes_on (coded (ways W.functions clauses p.conditions)) (λ ws. goes_on (all_proved W p.conditions ws) (λ _. Ok p))) q e in
-      let b = goes_ok (coded (ways W.functions clauses p.conditions)) (λ ws. goes_on (all_proved W p.conditions ws) (λ _. Ok p)) q a.2 in
+      let a = goes_ok (coded (of_conditions p.conditions clauses)) (λ _. goes_on (coded (ways W clauses p.conditions)) (λ ws. goes_on (all_proved W p.conditions ws) (λ _. Ok p))) q e in
+      let b = goes_ok (coded (ways W clauses p.conditions)) (λ ws. goes_on (all_proved W p.conditions ws) (λ _. Ok p)) q a.2 in
       let d = goes_ok (all_proved W p.conditions b.0) (λ _. Ok p) q b.2 in
       let same : p ≡ q = cc in
-      (same, conditions_hold clauses p.conditions b.0 (coded_ok (ways W.functions clauses p.conditions) b.0 b.1) d.1)
+      (same, conditions_hold clauses p.conditions b.0 (coded_ok (ways W clauses p.conditions) b.0 b.1) d.1)
 
   pub record IsPlanned (e : Frame) (p : Plan) : Type 0 where
     pub names : new_names W [] e.names ≡ Ok (tt {0})

@@ -4,12 +4,14 @@ use native.Mathlib.Numerals.{unary_clauses}
 use Rattle.std.proofs.lemmas.List.{drop_all, append-nil}
 use Rattle.lisp_data.specs.Values.{Name}
 use Rattle.lisp_data.specs.FormView.{form_of}
+use Rattle.lisp_data.specs.declared.code.Code.{Code}
+use Rattle.lisp_data.specs.declared.code.Code.TheVariants.{RepeatedFormal}
 use Rattle.lisp_data.specs.declared.detail.Detail.{Detail}
 use Rattle.lisp_data.specs.declared.detail.Detail.TheVariants as detail
 use Rattle.lisp_data.specs.declared.form.Form.{Form}
 use Rattle.terms.specs.Worlds.{is_in}
 use Rattle.term_forms.specs.Translation.{Outcome, map_outcome, and_rest, distinct_after}
-use Rattle.event_forms.proofs.ItemLemmas.{proper_at}
+use Rattle.proof_texts.proofs.ItemLemmas.{proper_at}
 use Rattle.events.specs.Definitions.{formal_of, names_of}
 
 -- the names from the place i on
@@ -31,10 +33,10 @@ joined-more ns x (Ok ms) = ap Ok (append_assoc ns (x ∷ []) ms)
 pub names-some : (xs : List Form) (i : ℕ) (d : Form) (ns : List Name) (x : Name) → i < length xs → formal_of (form_of (get_or xs i d)) ≡ Ok x → joined (ns ++ x ∷ []) (names_from xs (i + 1)) ≡ joined ns (names_from xs i)
 names-some xs i d ns x h e = joined-more ns x (names_from xs (i + 1)) ∙ ap (joined ns) (sym (names_from-step xs i d h ∙ ap (λ o. and_rest o (names_from xs (i + 1))) e))
 
-pub names-err : (xs : List Form) (i : ℕ) (d : Form) (e : ℕ × Detail) → i < length xs → formal_of (form_of (get_or xs i d)) ≡ Err e → names_from xs i ≡ Err e
+pub names-err : (xs : List Form) (i : ℕ) (d : Form) (e : Code × Detail) → i < length xs → formal_of (form_of (get_or xs i d)) ≡ Err e → names_from xs i ≡ Err e
 names-err xs i d e h same = names_from-step xs i d h ∙ ap (λ o. and_rest o (names_from xs (i + 1))) same
 
-pub joined-err : (ns : List Name) (o q : Outcome (List Name)) (e : ℕ × Detail) → joined ns o ≡ q → o ≡ Err e → q ≡ Err e
+pub joined-err : (ns : List Name) (o q : Outcome (List Name)) (e : Code × Detail) → joined ns o ≡ q → o ≡ Err e → q ≡ Err e
 joined-err ns o q e h same = sym h ∙ ap (joined ns) same
 
 pub names-end : (xs : List Form) (i : ℕ) (ns : List Name) → length xs ≤ i → joined ns (names_from xs i) ≡ names_from xs 0 → names_from xs 0 ≡ Ok ns
@@ -50,8 +52,8 @@ module _ (a b : List Name) (same : (x : Name) → is_in a x ≡ is_in b x) where
 pub distinct_seen : (a b xs : List Name) → ((x : Name) → is_in a x ≡ is_in b x) → distinct_after a xs ≡ distinct_after b xs
 distinct_seen a b [] same = refl
 distinct_seen a b (x ∷ xs) same =
-    ap (λ c. if c then Err (20, detail.Name x) else distinct_after (x ∷ a) xs) (same x)
-    ∙ ap (λ o. if is_in b x then Err (20, detail.Name x) else o) (distinct_seen (x ∷ a) (x ∷ b) xs (or_same a b same x))
+    ap (λ c. if c then Err (RepeatedFormal, detail.Name x) else distinct_after (x ∷ a) xs) (same x)
+    ∙ ap (λ o. if is_in b x then Err (RepeatedFormal, detail.Name x) else o) (distinct_seen (x ∷ a) (x ∷ b) xs (or_same a b same x))
 
 or_swap : (a b c : Bool) → (a || (b || c)) ≡ (b || (a || c))
 or_swap true true c = refl
@@ -82,14 +84,14 @@ module _ (xs : List Name) (i : ℕ) (d : Name) (h : i < length xs) where
   here : distinct_from xs i ≡ distinct_after (take i xs) (get_or xs i d ∷ drop (i + 1) xs)
   here = ap (distinct_after (take i xs)) (drop-more xs i d h)
 
-  pub distinct-twice : is_in (take i xs) (get_or xs i d) ≡ true → distinct_from xs i ≡ Err (20, detail.Name (get_or xs i d))
-  distinct-twice e = here ∙ ap (λ c. if c then Err (20, detail.Name (get_or xs i d)) else distinct_after (get_or xs i d ∷ take i xs) (drop (i + 1) xs)) e
+  pub distinct-twice : is_in (take i xs) (get_or xs i d) ≡ true → distinct_from xs i ≡ Err (RepeatedFormal, detail.Name (get_or xs i d))
+  distinct-twice e = here ∙ ap (λ c. if c then Err (RepeatedFormal, detail.Name (get_or xs i d)) else distinct_after (get_or xs i d ∷ take i xs) (drop (i + 1) xs)) e
 
   pub distinct-once : is_in (take i xs) (get_or xs i d) ≡ false → distinct_from xs (i + 1) ≡ distinct_from xs i
   distinct-once e =
       ap (λ ys. distinct_after ys (drop (i + 1) xs)) (take-more xs i d h)
       ∙ sym (distinct_seen (get_or xs i d ∷ take i xs) (take i xs ++ get_or xs i d ∷ []) (drop (i + 1) xs) (in_end (take i xs) (get_or xs i d)))
-      ∙ sym (here ∙ ap (λ c. if c then Err (20, detail.Name (get_or xs i d)) else distinct_after (get_or xs i d ∷ take i xs) (drop (i + 1) xs)) e)
+      ∙ sym (here ∙ ap (λ c. if c then Err (RepeatedFormal, detail.Name (get_or xs i d)) else distinct_after (get_or xs i d ∷ take i xs) (drop (i + 1) xs)) e)
 
 pub distinct-end : (xs : List Name) (i : ℕ) → length xs ≤ i → distinct_from xs i ≡ distinct_from xs 0 → distinct_from xs 0 ≡ Ok tt
 distinct-end xs i h e = sym e ∙ ap (distinct_after (take i xs)) (drop_all i xs h)

@@ -1,5 +1,6 @@
 -- What an outcome came of.
-use Rattle.std.proofs.Common.{◌≡◌, ℕ, Bool, true, false, Ok, Err, if◌then◌else◌, refl, ap}
+use Rattle.std.proofs.Common.{◌≡◌, Bool, true, false, Ok, Err, if◌then◌else◌, refl, ap}
+use Rattle.lisp_data.specs.declared.code.Code.{Code}
 use Rattle.lisp_data.specs.declared.detail.Detail.{Detail}
 use Rattle.term_forms.specs.Translation.{Outcome, and_then, map_outcome}
 use Rattle.events.specs.Frames.{Judged, coded, goes_on}
@@ -20,10 +21,10 @@ pub coded_ok : {A : Type 0} (o : Outcome A) (x : A) → coded o ≡ Ok x → o �
 coded_ok (Err e) x h = absurd (cc)
 coded_ok (Ok y) x h = let same : y ≡ x = cc in ap Ok same
 
-pub if_ok : {A : Type 0} (b : Bool) (o : Outcome A) (e : ℕ × Detail) (y : A) → (if b then o else Err e) ≡ Ok y → (b ≡ true) × (o ≡ Ok y)
+pub if_ok : {A : Type 0} (b : Bool) (o : Outcome A) (e : Code × Detail) (y : A) → (if b then o else Err e) ≡ Ok y → (b ≡ true) × (o ≡ Ok y)
 if_ok true o e y h = (refl, h)
 if_ok false o e y h = absurd (cc)
 
-pub unless_ok : {A : Type 0} (b : Bool) (o : Outcome A) (e : ℕ × Detail) (y : A) → (if b then Err e else o) ≡ Ok y → (b ≡ false) × (o ≡ Ok y)
+pub unless_ok : {A : Type 0} (b : Bool) (o : Outcome A) (e : Code × Detail) (y : A) → (if b then Err e else o) ≡ Ok y → (b ≡ false) × (o ≡ Ok y)
 unless_ok true o e y h = absurd (cc)
 unless_ok false o e y h = (refl, h)

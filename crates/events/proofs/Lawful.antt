@@ -10,7 +10,7 @@ use Rattle.term_forms.specs.TranslationLaws.{TranslatedTermsFit}
 use Rattle.terms.specs.declared.definition.Definition.{Definition}
 use Rattle.terms.specs.declared.sequent.Sequent.{Sequent}
 use Rattle.worlds.specs.Names.{is_free}
-use Rattle.event_forms.specs.ProofTexts.{any}
+use Rattle.proof_texts.specs.Parts.{any}
 use Rattle.plans.specs.declared.plan.Plan.{Plan}
 use Rattle.plans.specs.Entries.{AdmitsAll}
 use Rattle.plans.specs.Plans.{no_plan, ConditionsHold, HoldBefore, HoldAfter, IsLawfulPlan}

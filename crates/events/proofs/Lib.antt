@@ -6,3 +6,4 @@ pub mod Counted
 pub mod Lawful
 pub mod HandleLemmas
 pub mod StepLemmas
+pub mod Stopped

@@ -3,8 +3,9 @@ use Rattle.std.proofs.Common.{codes, ◌≡◌, ℕ, Bool, true, false, List, []
 use Rattle.std.specs.Result.{IsErr, IsErrAnd}
 use Rattle.lisp_data.specs.Values.{Name}
 use Rattle.lisp_data.specs.Datum.{Datum}
-use Rattle.lisp_data.specs.RefusalCodes.{number}
+use Rattle.lisp_data.specs.declared.code.Code.{Code}
 use Rattle.lisp_data.specs.declared.code.Code.TheVariants.{NotAnEvent}
+use Rattle.lisp_data.specs.RefusalCodes.{number}
 use Rattle.lisp_data.specs.declared.detail.Detail.{Detail}
 use Rattle.lisp_data.specs.declared.detail.Detail.TheVariants.{Absent}
 use Rattle.terms.specs.Terms.{Tm}
@@ -30,7 +31,7 @@ use Rattle.events.specs.declared.steps.StepAnswer.{StepAnswer}
 use Rattle.events.specs.declared.steps.StepAnswer.TheVariants as answer
 
 -- an error is the refusal of an outcome
-pub coded_refusal : {A : Type 0} (o : Outcome A) (code : ℕ) (d : Detail) (h : Halt) → IsCoded code d h → o ≡ Err (code, d) → IsRefusal o h
+pub coded_refusal : {A : Type 0} (o : Outcome A) (code : Code) (d : Detail) (h : Halt) → IsCoded code d h → o ≡ Err (code, d) → IsRefusal o h
 coded_refusal o code d (Refused why) is same = subst (λ w. IsRefusal o (Refused w)) (sym is) same
 coded_refusal o code d Memory is same = tt
 
@@ -48,9 +49,9 @@ module _ (o : Outcome Tm) (f : Name) (t : Tm) (calls : Bool) (is : o ≡ Ok t) (
   goes_on : and_then o (unless_recursive f) ≡ (if calls then not_an_event else Ok t)
   goes_on = ap (λ p. and_then p (unless_recursive f)) is ∙ ap (λ b. if b then not_an_event else Ok t) (sym test)
 
-  pub recursive_body : calls ≡ true → (h : Halt) → IsCoded (number NotAnEvent) Absent h → IsRefusal (and_then o (unless_recursive f)) h
+  pub recursive_body : calls ≡ true → (h : Halt) → IsCoded NotAnEvent Absent h → IsRefusal (and_then o (unless_recursive f)) h
   recursive_body is_true h coded =
-      coded_refusal (and_then o (unless_recursive f)) (number NotAnEvent) Absent h coded (goes_on ∙ ap (λ b. if b then not_an_event else Ok t) is_true)
+      coded_refusal (and_then o (unless_recursive f)) NotAnEvent Absent h coded (goes_on ∙ ap (λ b. if b then not_an_event else Ok t) is_true)
 
   pub flat_body : calls ≡ false → and_then o (unless_recursive f) ≡ Ok t
   flat_body is_false = goes_on ∙ ap (λ b. if b then not_an_event else Ok t) is_false
@@ -88,5 +89,5 @@ module _ (W : World) (form : Datum) (place index : ℕ) where
       by_shape_of (Err e) is (ProofWrong condition node rule) h = absurd h
       by_shape_of (Err e) is (AtNode code condition node) h = absurd h
 
-  pub refused_step : (why : Refusal) (code : ℕ) (lines : List (List ℕ)) → Answers W form (event_of form) (Err (Refused why)) → code ≡ refusal_code why → lines ≡ refused_line index why place ∷ [] → IsStep W form place index (answer.Refused code lines)
+  pub refused_step : (why : Refusal) (code : ℕ) (lines : List (List ℕ)) → Answers W form (event_of form) (Err (Refused why)) → code ≡ number (refusal_code why) → lines ≡ refused_line index why place ∷ [] → IsStep W form place index (answer.Refused code lines)
   refused_step why code lines h code_is lines_are = record { why = why; verdict_is = refused why h; code_is = code_is; lines_are = lines_are }

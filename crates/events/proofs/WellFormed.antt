@@ -16,16 +16,15 @@ use Rattle.term_forms.specs.Translation.{Takes, and_then, map_outcome, distinct_
 use Rattle.term_forms.specs.TranslationLaws.{HasWords, TranslatedTermsFit}
 use Rattle.terms.specs.declared.definition.Definition.{Definition}
 use Rattle.terms.proofs.Extend.{over_map, arity_later}
-use Rattle.terms.proofs.Later.{has_append, has_basics}
+use Rattle.terms.proofs.Later.{has_basics, has_append}
 use Rattle.terms.proofs.Meaning.{arity_defined}
 use Rattle.terms.proofs.Names.{same_name, name_self}
 use Rattle.term_forms.specs.Names.{is_function_name}
 use Rattle.worlds.specs.Names.{is_free}
 use Rattle.worlds.proofs.Free.{free}
-use Rattle.event_forms.specs.ProofTexts.{any}
+use Rattle.proof_texts.specs.Parts.{any}
 use Rattle.events.specs.declared.definitions.TheConstants.{MAX_FORMALS}
 use Rattle.events.proofs.Inversions.{then_ok, map_ok, if_ok, unless_ok}
-use Rattle.lisp_data.specs.RefusalCodes.{number}
 use Rattle.lisp_data.specs.declared.code.Code.TheVariants as code
 use Rattle.events.specs.Definitions.{ names_of, distinct, formals_of, with_own, function, unless_recursive, body_of, definition_of, new_name}
 
@@ -49,7 +48,7 @@ out_list (y ∷ ys) x e i = by_test (bytes_eq y x) e i (out_list ys x)
 apart : (before xs : List Name) → distinct_after before xs ≡ Ok tt → (x : Name) → is_in before x ≡ true → IsIn xs x → ⊥
 apart before [] h x seen i = i
 apart before (y ∷ ys) h x seen i =
-    let p = unless_ok (is_in before y) (distinct_after (y ∷ before) ys) (20, detail.Name y) tt h in
+    let p = unless_ok (is_in before y) (distinct_after (y ∷ before) ys) (code.RepeatedFormal, detail.Name y) tt h in
     by_test (bytes_eq y x) refl p.0 i (apart (y ∷ before) ys p.1 x)
   where
     by_test : (b : Bool) → bytes_eq y x ≡ b → is_in before y ≡ false → cond b (Unit {0}) (IsIn ys x) → (is_in (y ∷ before) x ≡ true → IsIn ys x → ⊥) → ⊥
@@ -59,7 +58,7 @@ apart before (y ∷ ys) h x seen i =
 all_distinct : (before xs : List Name) → distinct_after before xs ≡ Ok tt → Distinct xs
 all_distinct before [] h = tt
 all_distinct before (x ∷ xs) h =
-    let p = unless_ok (is_in before x) (distinct_after (x ∷ before) xs) (20, detail.Name x) tt h in
+    let p = unless_ok (is_in before x) (distinct_after (x ∷ before) xs) (code.RepeatedFormal, detail.Name x) tt h in
     (apart (x ∷ before) xs p.1 x (in_first x before), all_distinct (x ∷ before) xs p.1)
   where
     in_first : (x : Name) (ys : List Name) → is_in (x ∷ ys) x ≡ true
@@ -188,5 +187,5 @@ module _ (fit : TranslatedTermsFit) (W : World) (sound : Sound W) where
 -- a name that may be given is free
 pub name_is_free : (W : World) (f : Name) → new_name W f ≡ Ok tt → is_free W f ≡ true
 name_is_free W f e =
-    let p = if_ok (is_function_name f) (if is_free W f then Ok tt else Err (number code.NameTaken, detail.Name f)) (12, detail.Word (codes "name")) tt e in
-    (if_ok (is_free W f) (Ok tt) (number code.NameTaken, detail.Name f) tt p.1).0
+    let p = if_ok (is_function_name f) (if is_free W f then Ok tt else Err (code.NameTaken, detail.Name f)) (12, detail.Word (codes "name")) tt e in
+    (if_ok (is_free W f) (Ok tt) (code.NameTaken, detail.Name f) tt p.1).0

@@ -2,7 +2,6 @@
 use Rattle.std.specs.Prelude.{ℕ, if◌then◌else◌, nat_le, bytes_eq, codes, List, [], ◌∷◌, length, Some, None, Ok, Err}
 use Rattle.lisp_data.specs.Values.{Name}
 use Rattle.lisp_data.specs.Datum.{Datum, SymForm}
-use Rattle.lisp_data.specs.RefusalCodes.{number}
 use Rattle.lisp_data.specs.declared.code.Code.TheVariants as code
 use Rattle.lisp_data.specs.declared.detail.Detail.TheVariants as detail
 use Rattle.terms.specs.Terms.{Tm}
@@ -17,7 +16,7 @@ use Rattle.event_forms.specs.Refused.{not_an_event, bad_part}
 
 -- the name of a new function or theorem
 abbrev pub new_name : World → Name → Outcome (Unit {0})
-new_name W n = if is_function_name n then (if is_free W n then Ok tt else Err (number code.NameTaken, detail.Name n)) else bad_part (codes "name")
+new_name W n = if is_function_name n then (if is_free W n then Ok tt else Err (code.NameTaken, detail.Name n)) else bad_part (codes "name")
 
 -- a variable name
 abbrev pub formal_of : Datum → Outcome Name

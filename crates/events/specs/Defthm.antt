@@ -6,7 +6,7 @@ use Rattle.terms.specs.Terms.{Tm}
 use Rattle.terms.specs.Worlds.{arity}
 use Rattle.term_forms.specs.Translation.{map_outcome, translate}
 use Rattle.terms.specs.declared.sequent.Sequent.{Sequent}
-use Rattle.event_forms.specs.ProofTexts.{any}
+use Rattle.proof_texts.specs.Parts.{any}
 use Rattle.plans.specs.declared.plan.Condition.{Condition}
 use Rattle.plans.specs.declared.plan.Plan.{Plan}
 use Rattle.plans.specs.declared.plan.Entry.TheVariants.{Theorem}

@@ -3,6 +3,7 @@ use Rattle.std.specs.Prelude.{◌≡◌, ℕ, true, codes, List, [], ◌∷◌, 
 use Rattle.lisp_data.specs.FormView.{form_of, IsProper}
 use Rattle.lisp_data.specs.Datum.{Datum}
 use Rattle.lisp_data.specs.Values.{Name}
+use Rattle.lisp_data.specs.declared.code.Code.{Code}
 use Rattle.lisp_data.specs.declared.detail.Detail.{Detail}
 use Rattle.terms.specs.Worlds.{World}
 use Rattle.term_forms.specs.Translation.{Outcome, map_outcome}
@@ -13,11 +14,13 @@ use Rattle.kernel.specs.declared.errors.RuleName.{RuleName}
 use Rattle.event_forms.specs.Shapes.{Event}
 use Rattle.event_forms.specs.declared.errors.EventError.{EventError}
 use Rattle.event_forms.specs.declared.errors.EventError.TheVariants as event
+use Rattle.proof_texts.specs.declared.errors.ProofError.{ProofError}
+use Rattle.proof_texts.specs.declared.errors.ProofError.TheVariants as proof
 use Rattle.plans.specs.declared.plan.Condition.{Condition}
 use Rattle.plans.specs.declared.plan.Plan.{Plan}
 use Rattle.plans.specs.Entries.{add_entries}
 use Rattle.plans.specs.Proving.{proves, sequents, ProvesAll, AreProofs}
-use Rattle.events.specs.declared.refusal.Refusal.TheVariants.{Coded, ProofWrong}
+use Rattle.events.specs.declared.refusal.Refusal.TheVariants.{Coded, ProofWrong, AtNode}
 use Rattle.events.specs.declared.halt.Halt.{Halt}
 use Rattle.events.specs.declared.halt.Halt.TheVariants.{Refused, Memory}
 use Rattle.events.specs.declared.clauses.Clauses.{Clauses}
@@ -37,7 +40,7 @@ use Rattle.events.specs.Lines.{event_text}
 use Rattle.events.specs.declared.handle.EventProofs.{EventProofs}
 
 -- the refusal has this code and this detail, or it is want of memory
-abbrev pub IsCoded : ℕ → Detail → Halt → Type 0
+abbrev pub IsCoded : Code → Detail → Halt → Type 0
 IsCoded code detail (Refused why) = why ≡ Coded code detail
 IsCoded code detail Memory = Unit {0}
 
@@ -45,6 +48,11 @@ IsCoded code detail Memory = Unit {0}
 abbrev pub IsWrong : Name → ℕ → RuleName → Halt → Type 0
 IsWrong condition node rule (Refused why) = why ≡ ProofWrong condition node rule
 IsWrong condition node rule Memory = Unit {0}
+
+-- a rule of a condition's proof can't go on, or it is want of memory
+abbrev pub IsStopped : Name → ℕ → Code → Halt → Type 0
+IsStopped condition node code (Refused why) = why ≡ AtNode code condition node
+IsStopped condition node code Memory = Unit {0}
 
 -- an error is the outcome's refusal, or want of memory
 abbrev pub IsRefusal : {A : Type 0} → Outcome A → Halt → Type 0
@@ -63,10 +71,14 @@ Says seen o (Ok x) = o ≡ Ok (seen x)
 Says seen o (Err (Refused why)) = o ≡ Err why
 Says seen o (Err Memory) = Unit {0}
 
--- an error of a form or a term, as what ends the handling of its event
+-- an error of a form, a proof's text or a term, as what ends the handling of its event
 abbrev pub IsFromEvent : EventError → Halt → Type 0
 IsFromEvent (event.Refused code detail) e = e ≡ Refused (Coded code detail)
 IsFromEvent event.Memory e = e ≡ Memory
+
+abbrev pub IsFromProof : ProofError → Halt → Type 0
+IsFromProof (proof.Refused code detail) e = e ≡ Refused (Coded code detail)
+IsFromProof proof.Memory e = e ≡ Memory
 
 abbrev pub IsFromTerm : TermError → Halt → Type 0
 IsFromTerm (term.Refused code detail) e = e ≡ Refused (Coded code detail)

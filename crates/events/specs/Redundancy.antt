@@ -6,7 +6,7 @@ use Rattle.terms.specs.Worlds.{World, arity}
 use Rattle.term_forms.specs.Translation.{Outcome, translate}
 use Rattle.worlds.specs.Events.{has_event, find_defthm}
 use Rattle.event_forms.specs.Shapes.{Event, event_of}
-use Rattle.event_forms.specs.ProofTexts.{any}
+use Rattle.proof_texts.specs.Parts.{any}
 use Rattle.events.specs.Frames.{Repeats, Never, AsForm, AsTheorem}
 use Rattle.events.specs.Kinds.{frame_of}
 

@@ -1,6 +1,7 @@
 -- What the handling of one event answers.
 use Rattle.std.specs.Prelude.{◌≡◌, ℕ, List, [], ◌∷◌, Ok}
 use Rattle.lisp_data.specs.Datum.{Datum}
+use Rattle.lisp_data.specs.RefusalCodes.{number}
 use Rattle.terms.specs.Worlds.{World}
 use Rattle.event_forms.specs.Shapes.{Event, event_of}
 use Rattle.plans.specs.declared.plan.Plan.{Plan}
@@ -34,7 +35,7 @@ pub record IsRedundant (W : World) (form : Datum) (lines : List (List ℕ)) : Ty
 pub record IsRefused (W : World) (form : Datum) (place index code : ℕ) (lines : List (List ℕ)) : Type 0 where
   pub why : Refusal
   pub verdict_is : verdict W form ≡ Refused why
-  pub code_is : code ≡ refusal_code why
+  pub code_is : code ≡ number (refusal_code why)
   pub lines_are : lines ≡ refused_line index why place ∷ []
 
 -- the answer is the verdict's; no value is printed as yet

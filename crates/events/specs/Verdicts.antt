@@ -3,18 +3,19 @@ use Rattle.std.specs.Prelude.{ℕ, Bool, true, false, ◌&&◌, ◌||◌, if◌t
 use Rattle.lisp_data.specs.Values.{Name}
 use Rattle.lisp_data.specs.Datum.{Datum}
 use Rattle.lisp_data.specs.declared.detail.Detail.TheVariants as detail
-use Rattle.lisp_data.specs.RefusalCodes.{number}
+use Rattle.lisp_data.specs.declared.code.Code.{Code}
 use Rattle.lisp_data.specs.declared.code.Code.TheVariants as code
-use Rattle.terms.specs.Worlds.{World, Functions, arity, is_in}
+use Rattle.terms.specs.Worlds.{World, is_in}
 use Rattle.terms.specs.Sound.{add_event}
 use Rattle.term_forms.specs.Translation.{Outcome, and_then, map_outcome}
 use Rattle.terms.specs.declared.sequent.Sequent.{Sequent}
 use Rattle.proof_objects.specs.ProofTrees.{ProofTree, steps}
-use Rattle.kernel.specs.Concludes.{concludes, first_bad}
-use Rattle.kernel.specs.declared.errors.RuleName.TheVariants.{Rule, Claim}
+use Rattle.proof_objects.specs.declared.rule.Rule.{Rule}
+use Rattle.kernel.specs.Concludes.{BadNode, concludes, first_bad}
+use Rattle.kernel.specs.declared.errors.RuleName.TheVariants.{Rule as OfRule, Claim}
 use Rattle.event_forms.specs.Shapes.{Event, event_of}
 use Rattle.event_forms.specs.Refused.{not_an_event}
-use Rattle.event_forms.specs.ProofTexts.{proof_of}
+use Rattle.proof_texts.specs.ProofTexts.{proof_of}
 use Rattle.plans.specs.declared.plan.Condition.{Condition}
 use Rattle.plans.specs.declared.plan.Plan.{Plan}
 use Rattle.plans.specs.Entries.{add_entries}
@@ -22,7 +23,7 @@ use Rattle.plans.specs.Proving.{proves}
 use Rattle.events.specs.declared.clauses.Way.{Way}
 use Rattle.events.specs.declared.clauses.Way.TheVariants.{ByProof}
 use Rattle.events.specs.declared.refusal.Refusal.{Refusal}
-use Rattle.events.specs.declared.refusal.Refusal.TheVariants.{Coded, ProofWrong}
+use Rattle.events.specs.declared.refusal.Refusal.TheVariants.{Coded, ProofWrong, AtNode}
 use Rattle.events.specs.Definitions.{new_name}
 use Rattle.events.specs.Frames.{Judged, coded, goes_on, Clauses, Frame}
 use Rattle.events.specs.Kinds.{frame_of}
@@ -36,7 +37,7 @@ pub data Verdict : Type 0 where
 
 -- A new name, after those that the event gave before it. It is opened only where it is needed, since its tests would stand in each goal.
 unfoldable pub name_after : World → List Name → Name → Outcome (Unit {0})
-name_after W given n = if is_in given n then Err (number code.NameTaken, detail.Name n) else new_name W n
+name_after W given n = if is_in given n then Err (code.NameTaken, detail.Name n) else new_name W n
 
 -- the new names of an event, in order
 abbrev pub new_names : World → List Name → List Name → Outcome (Unit {0})
@@ -53,7 +54,7 @@ are_conditions cs (p ∷ ps) = is_condition cs p.0 && are_conditions cs ps
 
 -- each clause is of a condition
 abbrev pub of_conditions : List Condition → Clauses → Outcome (Unit {0})
-of_conditions cs clauses = if are_conditions cs clauses.proofs then Ok tt else Err (number code.ShapeMismatch, detail.Word (codes "conditions"))
+of_conditions cs clauses = if are_conditions cs clauses.proofs then Ok tt else Err (code.ShapeMismatch, detail.Word (codes "conditions"))
 
 -- the text under a condition's name
 abbrev pub clause_of : List (Name × Datum) → Name → Option Datum
@@ -61,20 +62,25 @@ clause_of [] n = None
 clause_of (p ∷ ps) n = if bytes_eq n p.0 then Some p.1 else clause_of ps n
 
 -- how a condition is proved: by the proof of a text; a condition without one isn't proved yet
-abbrev pub way_by : Functions → Option Datum → Outcome Way
+abbrev pub way_by : World → Option Datum → Outcome Way
 way_by W None = not_an_event
-way_by W (Some text) = map_outcome ByProof (proof_of (arity W) text)
+way_by W (Some text) = map_outcome ByProof (proof_of W text)
 
 -- the ways of conditions, in order
-abbrev pub ways : Functions → Clauses → List Condition → Outcome (List Way)
+abbrev pub ways : World → Clauses → List Condition → Outcome (List Way)
 ways W clauses [] = Ok []
 ways W clauses (c ∷ cs) =
     and_then (way_by W (clause_of clauses.proofs c.name)) (λ w. map_outcome (λ ws. w ∷ ws) (ways W clauses cs))
 
+-- why a condition's proof is refused at a node: the proof is wrong, or the node's rule computes and met a limit
+abbrev pub refused_at : Name → ℕ → Rule → Code → Refusal
+refused_at condition node rule code.ProofWrong = ProofWrong condition node (OfRule rule)
+refused_at condition node rule limit = AtNode limit condition node
+
 -- the first bad node; there is one in each proof that concludes nothing (the kernel's law `bad_where_nothing`), so the first case never comes
-abbrev pub bad_node : Name → Option (ℕ × ℕ) → Refusal
-bad_node condition None = Coded (number code.NotAnEvent) detail.Absent
-bad_node condition (Some bad) = ProofWrong condition bad.0 (Rule bad.1)
+abbrev pub bad_node : Name → Option BadNode → Refusal
+bad_node condition None = Coded code.NotAnEvent detail.Absent
+bad_node condition (Some bad) = refused_at condition bad.node bad.rule bad.code
 
 -- what a proof concludes has to prove the condition
 abbrev pub by_conclusion : World → Condition → ProofTree → Option Sequent → Judged (Unit {0})
@@ -94,7 +100,7 @@ all_proved W (c ∷ cs) (w ∷ ws) = goes_on (by_way W c w) (λ _. all_proved W 
 abbrev pub proved : World → Clauses → Plan → Judged Plan
 proved W clauses p =
     goes_on (coded (of_conditions p.conditions clauses)) (λ _.
-    goes_on (coded (ways W.functions clauses p.conditions)) (λ ws.
+    goes_on (coded (ways W clauses p.conditions)) (λ ws.
     goes_on (all_proved W p.conditions ws) (λ _. Ok p)))
 
 -- the plan of an event that passes all checks: its new names come first, then the event's own checks, then its conditions

@@ -6,7 +6,7 @@ ghost use Rattle.events.specs.Verdicts as spec;
 ghost use Rattle.events.specs.Halts.{Reads, clauses_seen, AreProper, joined};
 
 use crate::halt::Halt;
-use event_forms::read_proof;
+use proof_texts::read_proof;
 use lisp_data::{Code, Form, Seq, Symbol};
 use plans::Condition;
 use proof_objects::Proof;
@@ -54,7 +54,7 @@ pub(crate) fn check_clauses(
             if has_goal(conditions) {
                 Ok(())
             } else {
-                Err(Halt::word(alloc, Code::ShapeMismatch.number(), "conditions"))
+                Err(Halt::word(alloc, Code::ShapeMismatch, "conditions"))
             }
         }
     }
@@ -81,12 +81,12 @@ fn clause_of<'a>(clauses: &Clauses<'a>, name: &Symbol) -> Option<&'a Form>
 /// How a condition is proved, from its text.
 fn read_way(alloc: Global, world: &World, text: Option<&Form>) -> Result<Way, Halt>
     requires { IfSome text (λ text. IsProper text.now) }
-    ensures { Reads (λ way. way) (spec.way_by world.now.functions (option_map (λ text. form_of text.now) text.entry)) result }
+    ensures { Reads (λ way. way) (spec.way_by world.now (option_map (λ text. form_of text.now) text.entry)) result }
 {
     match text {
         None => Err(Halt::not_an_event()),
         Some(text) => {
-            let proof = read_proof(alloc, text, world)?;
+            let proof = read_proof(alloc, world, text)?;
             Ok(Way::ByProof(proof))
         }
     }
@@ -101,7 +101,7 @@ pub(crate) fn read_ways(
     mut ways: Ways,
 ) -> Result<Ways, Halt>
     requires { AreProper clauses.now }
-    ensures { Reads (λ ways. ways) (joined ways (spec.ways world.now.functions (clauses_seen clauses.now) conditions.now)) result }
+    ensures { Reads (λ ways. ways) (joined ways (spec.ways world.now (clauses_seen clauses.now) conditions.now)) result }
 {
     match conditions {
         [] => Ok(ways),

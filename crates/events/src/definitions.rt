@@ -12,11 +12,11 @@ ghost use Rattle.events.specs.Halts.{Reads};
 use crate::halt::Halt;
 use crate::names::is_among;
 use crate::own::WithOwn;
-use event_forms::symbol;
+use proof_texts::symbol;
 use lisp_data::{Code, Form, Symbol, Symbols};
 use std::alloc::Global;
-use terms::{Definition, Node, Term};
 use term_forms::{Scope, is_variable_name, translate};
+use terms::{Definition, Node, Term};
 use worlds::World;
 
 /// The most formals of a function.
@@ -59,7 +59,7 @@ fn check_distinct(names: &[Symbol]) -> Result<(), Halt>
 {
     for (i, name) in names.iter().enumerate() {
         if is_among(&names[..i], name) {
-            return Err(Halt::named(Code::RepeatedFormal.number(), name));
+            return Err(Halt::named(Code::RepeatedFormal, name));
         }
     }
     Ok(())

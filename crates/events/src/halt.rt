@@ -4,6 +4,7 @@ use crate::refusal::Refusal;
 use event_forms::EventError;
 use lisp_data::{Code, Detail, Symbol};
 use lists::{Memory, Text};
+use proof_texts::ProofError;
 use std::alloc::Global;
 use term_forms::TermError;
 
@@ -16,29 +17,28 @@ pub enum Halt {
 
 impl Halt {
     ghost use Rattle.lisp_data.specs.declared.detail.Detail.TheVariants.{Absent, Name, Word};
-    ghost use Rattle.lisp_data.specs.RefusalCodes.{number};
     ghost use Rattle.lisp_data.specs.declared.code.Code.TheVariants.{NotAnEvent, BadForm};
     ghost use Rattle.events.specs.Halts.{IsCoded};
 
     /// The event isn't there yet.
     pub(crate) fn not_an_event() -> Halt
-        ensures { IsCoded (number NotAnEvent) Absent result }
+        ensures { IsCoded NotAnEvent Absent result }
     {
         Halt::Refused(Refusal::Coded {
-            code: Code::NotAnEvent.number(),
+            code: Code::NotAnEvent,
             detail: Detail::Absent,
         })
     }
 
     /// A part of an event has another shape.
     pub(crate) fn bad_part(alloc: Global, word: &str) -> Halt
-        ensures { IsCoded (number BadForm) (Word word.now) result }
+        ensures { IsCoded BadForm (Word word.now) result }
     {
-        Halt::word(alloc, Code::BadForm.number(), word)
+        Halt::word(alloc, Code::BadForm, word)
     }
 
     /// A word is refused, by its code.
-    pub(crate) fn word(alloc: Global, code: u8, word: &str) -> Halt
+    pub(crate) fn word(alloc: Global, code: Code, word: &str) -> Halt
         ensures { IsCoded code (Word word.now) result }
     {
         match Text::from_slice(alloc, word.as_bytes()) {
@@ -51,7 +51,7 @@ impl Halt {
     }
 
     /// A name is refused, by its code.
-    pub(crate) fn named(code: u8, name: &Symbol) -> Halt
+    pub(crate) fn named(code: Code, name: &Symbol) -> Halt
         ensures { IsCoded code (Name name.now) result }
     {
         match name.share() {
@@ -86,6 +86,21 @@ impl From<EventError> for Halt {
                 Halt::Refused(Refusal::Coded { code, detail })
             }
             EventError::Memory => Halt::Memory,
+        }
+    }
+}
+
+impl From<ProofError> for Halt {
+    ghost use Rattle.events.specs.Halts.{IsFromProof};
+
+    ghost from_gives = { λ t e. IsFromProof t e };
+
+    fn from(error: ProofError) -> Halt {
+        match error {
+            ProofError::Refused { code, detail } => {
+                Halt::Refused(Refusal::Coded { code, detail })
+            }
+            ProofError::Memory => Halt::Memory,
         }
     }
 }

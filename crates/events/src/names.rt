@@ -20,7 +20,7 @@ fn check_name(alloc: Global, world: &World, name: &Symbol) -> Result<(), Halt>
         return Err(Halt::bad_part(alloc, "name"));
     }
     if !world.is_free(name) {
-        return Err(Halt::named(Code::NameTaken.number(), name));
+        return Err(Halt::named(Code::NameTaken, name));
     }
     Ok(())
 }
@@ -42,7 +42,7 @@ fn check_after(alloc: Global, world: &World, given: &[Symbol], name: &Symbol) ->
     ensures { Reads (λ x. x) (name_after world.now given.now name.now) result }
 {
     if is_among(given, name) {
-        return Err(Halt::named(Code::NameTaken.number(), name));
+        return Err(Halt::named(Code::NameTaken, name));
     }
     check_name(alloc, world, name)
 }

@@ -1,8 +1,8 @@
 //! The conditions of an event, proved one after the other.
 
 ghost use Rattle.std.specs.Prelude.{◌≡◌, ◌<◌, ◌^◌};
-ghost use Rattle.proof_objects.specs.ProofTrees.{steps};
-ghost use Rattle.events.specs.Halts.{IsWrong, ProvesOne, ProvesAfter};
+ghost use Rattle.proof_objects.specs.ProofTrees.{steps, steps_in, trees};
+ghost use Rattle.events.specs.Halts.{IsWrong, IsStopped, ProvesOne, ProvesAfter};
 
 use crate::clauses::Way;
 use crate::halt::Halt;
@@ -10,20 +10,31 @@ use crate::handle::ProvedList;
 use crate::refusal::Refusal;
 use kernel::{CheckError, Proved, RuleName, check};
 use plans::{Condition, proves};
-use proof_objects::{Proof, ProofNode};
+use lisp_data::Code;
+use proof_objects::Proof;
 use std::alloc::Global;
 use worlds::World;
 
 /// The number of a proof's last node.
+#[cycle(root)]
 fn root_number(proof: &Proof) -> u32
     requires { steps proof.now < 2 ^ 32 }
     ensures { result ≡ steps proof.now }
 {
-    match proof.node() {
-        ProofNode::Refl(_) => 1,
-        ProofNode::Replace(p, q, _) => root_number(p) + root_number(q) + 1,
-        ProofNode::Unfold(_) => 1,
+    last_number(proof.node().subproofs.as_slice()) + 1
+}
+
+/// The number of the last node of proofs that stand one after the other.
+#[cycle(root)]
+fn last_number(proofs: &[Proof]) -> u32
+    requires { steps_in (trees proofs.now) < 2 ^ 32 }
+    ensures { result ≡ steps_in (trees proofs.now) }
+{
+    let mut last = 0;
+    for proof in proofs {
+        last += root_number(proof);
     }
+    last
 }
 
 /// A condition's proof is wrong at a node.
@@ -35,6 +46,20 @@ fn wrong(condition: &Condition, node: u32, rule: RuleName) -> Halt
             condition,
             node,
             rule,
+        }),
+        Err(_) => Halt::Memory,
+    }
+}
+
+/// A rule of a condition's proof computes, and can't go on at a node.
+fn stopped(condition: &Condition, node: u32, code: Code) -> Halt
+    ensures { IsStopped condition.now.name node code result }
+{
+    match condition.name.share() {
+        Ok(condition) => Halt::Refused(Refusal::AtNode {
+            code,
+            condition,
+            node,
         }),
         Err(_) => Halt::Memory,
     }
@@ -55,7 +80,7 @@ fn prove_one(alloc: Global, world: &World, condition: &Condition, way: &Way) -> 
         }
         Err(error) => match error {
             CheckError::ProofWrong { node, rule } => Err(wrong(condition, node, rule)),
-            CheckError::Limit { node: _, code: _ } => unreachable!(),
+            CheckError::Limit { node, code } => Err(stopped(condition, node, code)),
             CheckError::Memory => Err(Halt::Memory),
         },
     }

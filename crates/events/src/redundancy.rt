@@ -24,7 +24,7 @@ pub enum Repeats<'a> {
     AsTheorem(&'a Symbol, &'a Form),
 }
 
-/// Whether an event was accepted before (docs/BOOKS.md, "Redundant events").
+/// Whether an event was accepted before (docs/EVENTS.md, "Redundancy").
 pub(crate) fn is_redundant(
     alloc: Global,
     world: &World,

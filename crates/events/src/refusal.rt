@@ -8,10 +8,10 @@ use lisp_data::{Code, Detail, Symbol};
 use lists::{Memory, Text};
 use std::alloc::Global;
 
-/// Why a book or an event is refused (docs/BOOKS.md, "Refusals").
+/// Why a book or an event is refused (docs/REPORT.md, "Refusals").
 pub enum Refusal {
     /// A refusal by its code, and what it names.
-    Coded { code: u8, detail: Detail },
+    Coded { code: Code, detail: Detail },
     /// A condition's proof is wrong: its first node that concludes nothing, or its last node and the claim that it doesn't prove.
     ProofWrong {
         condition: Symbol,
@@ -20,7 +20,7 @@ pub enum Refusal {
     },
     /// A rule of a condition's proof computes, and can't go on.
     AtNode {
-        code: u8,
+        code: Code,
         condition: Symbol,
         node: u32,
     },
@@ -44,59 +44,23 @@ impl Drop for Refusal {
     }
 }
 
-fn fault_word(code: u8) -> &'static str
-    ensures { result.now ≡ spec.fault_word code }
-{
-    match code {
-        1 => "BadByte",
-        2 => "UnclosedList",
-        3 => "StrayClose",
-        4 => "BadDot",
-        5 => "BadNumber",
-        6 => "IntegerTooWide",
-        7 => "TooDeep",
-        8 => "BookTooLong",
-        9 => "SymbolTooLong",
-        _ => "UnclosedText",
-    }
-}
-
-fn event_word(code: u8) -> &'static str
-    ensures { result.now ≡ spec.event_word code }
-{
-    match code {
-        11 => "NotAnEvent",
-        12 => "BadForm",
-        13 => "KeyNotKnown",
-        14 => "BookNotKnown",
-        15 => "TermTooLarge",
-        16 => "NameTaken",
-        17 => "UnknownName",
-        18 => "WrongArity",
-        19 => "UnboundVariable",
-        20 => "RepeatedFormal",
-        32 => "ProofWrong",
-        code => fault_word(code),
-    }
-}
-
+/// The word of a node's rule, or of the claim that the proof doesn't prove.
 fn rule_word(rule: RuleName) -> &'static str
     ensures { result.now ≡ spec.rule_word rule }
 {
     match rule {
-        RuleName::Rule(2) => ":REFL",
-        RuleName::Rule(3) => ":REPLACE",
-        RuleName::Rule(_) => ":UNFOLD",
+        RuleName::Rule(rule) => rule.word(),
         RuleName::Claim => ":CLAIM",
     }
 }
 
 /// Code and word.
-fn coded_text(alloc: Global, code: u8) -> Result<Text, Memory>
+fn coded_text(alloc: Global, code: Code) -> Result<Text, Memory>
     ensures { IfOk result (λ text. text ≡ spec.coded_text code) }
 {
-    let word = event_word(code);
-    let text = format!(in alloc; "{code} {word}")?;
+    let number = code.number();
+    let word = code.word();
+    let text = format!(in alloc; "{number} {word}")?;
     Text::from_slice(alloc, text.as_bytes())
 }
 
@@ -138,8 +102,8 @@ fn rule_text(
 impl Refusal {
     ghost use Rattle.events.specs.Refusals.{refusal_code};
 
-    /// The number of the refusal.
-    pub fn code(&self) -> u8
+    /// The code of the refusal.
+    pub fn code(&self) -> Code
         ensures { result ≡ refusal_code self.now }
     {
         match self {
@@ -148,7 +112,7 @@ impl Refusal {
                 condition: _,
                 node: _,
                 rule: _,
-            } => Code::ProofWrong.number(),
+            } => Code::ProofWrong,
             Refusal::AtNode {
                 code,
                 condition: _,

@@ -23,7 +23,7 @@ use worlds::World;
 /// The lines of a report.
 pub type Lines = Seq<Text>;
 
-/// What the handling of an event answers (docs/BOOKS.md).
+/// What the handling of an event answers (docs/EVENTS.md).
 #[derive(Drop)]
 pub enum StepAnswer {
     /// The world that it makes, its lines, and its proofs.
@@ -32,7 +32,7 @@ pub enum StepAnswer {
     Redundant(Lines),
     /// A value is printed.
     Printed(Lines),
-    /// The code of the refusal, and its lines.
+    /// The number of the refusal's code, and its lines.
     Refused(u8, Lines),
 }
 
@@ -53,7 +53,7 @@ pub fn step(
             Halt::Refused(why) => {
                 let line = refused_text(alloc, index, &why, located.place)?;
                 let lines = one_line(alloc, line)?;
-                Ok(StepAnswer::Refused(why.code(), lines))
+                Ok(StepAnswer::Refused(why.code().number(), lines))
             }
             Halt::Memory => Err(Memory),
         },

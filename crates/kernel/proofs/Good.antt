@@ -16,6 +16,7 @@ use Rattle.terms.proofs.Below.{Any}
 use Rattle.terms.proofs.Models.{Model, model, vals, vals-length, is_if}
 use Rattle.terms.proofs.Extend.{body_fits}
 use Rattle.terms.proofs.Meaning.{val_same, val_substitute, args_bound, arity_primitive, arity_defined, of_definition, true_from, true_to}
+use Rattle.terms.proofs.Later.{has_basics}
 use Rattle.terms.proofs.Same.{same_term}
 use Rattle.terms.proofs.Standard.{basics_table, basics_arities, basics_do, standard_fits, val_standard}
 use Rattle.terms.proofs.Totality.{each_to, over_substitute, over_by_args}
@@ -68,7 +69,7 @@ module _ (W : World) (sound : Sound W) where
   fit_conditional a b c p q r = (arity_primitive W.functions (codes "IF") _ is_if, (p, (q, (r, tt))))
 
   fit_implication : (a b : Tm) → Fit a → Fit b → Fit (implication a b)
-  fit_implication a b p q = (arity_defined W.functions sound.formed (codes "IMPLIES") implies_def sound.basics.has_implies, (p, (q, tt)))
+  fit_implication a b p q = (arity_defined W.functions sound.formed (codes "IMPLIES") implies_def (has_basics W sound).has_implies, (p, (q, tt)))
 
   fit_body : (f : Name) (ts : Tms) (d : Definition) → find W.functions.defs f ≡ Some d → Fit (Call f ts) → Fit (body_at d ts)
   fit_body f ts d found fit =
@@ -86,7 +87,7 @@ module _ (W : World) (sound : Sound W) where
   Of I tot = let m = M I tot in m.of
 
   logical : (I : Interp) (tot : TotalFor W.functions I) → Logical (Of I tot)
-  logical I tot = model_logical W.functions I (M I tot) sound.formed sound.basics
+  logical I tot = model_logical W.functions I (M I tot) sound.formed (has_basics W sound)
 
   -- well formed, and it follows under each interpretation
   pub record Good (s : Sequent) : Type 0 where
@@ -128,10 +129,10 @@ module _ (W : World) (sound : Sound W) where
   good_axiom : (k : ℕ) (a : Tm) → axiom_at k ≡ Some a → Good (of_goal a)
   good_axiom k a e =
       let t = axiom_truth k a e in record {
-        fit = alone_fits a (standard_fits W.functions basics_table (basics_arities W.functions sound.formed sound.basics) a t.calls);
+        fit = alone_fits a (standard_fits W.functions basics_table (basics_arities W.functions sound.formed (has_basics W sound)) a t.calls);
         follows = λ I tot. record {
           holds = λ u env h. record {
-            so = λ n. t.true' env (sym (val_standard W.functions I (M I tot) basics_table (basics_do W.functions I (M I tot) sound.formed sound.basics) a env t.calls) ∙ n);
+            so = λ n. t.true' env (sym (val_standard W.functions I (M I tot) basics_table (basics_do W.functions I (M I tot) sound.formed (has_basics W sound)) a env t.calls) ∙ n);
           };
         };
       }

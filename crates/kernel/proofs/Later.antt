@@ -16,6 +16,7 @@ use Rattle.terms.specs.declared.entries.FactName.{FactName}
 use Rattle.terms.specs.declared.entries.FactName.TheVariants as fact
 use Rattle.terms.specs.declared.entries.Iso.{Iso}
 use Rattle.terms.specs.declared.sequent.Sequent.{Sequent}
+use Rattle.terms.proofs.Later.{vars_apart}
 use Rattle.terms.proofs.Names.{same_name}
 use Rattle.worlds.specs.Lookups.{find_iso}
 use Rattle.proof_objects.specs.declared.step.Step.{Step}
@@ -28,7 +29,7 @@ use Rattle.kernel.specs.Logic.{by_cases, weakened, contradicted, instantiated}
 use Rattle.kernel.specs.Facts.{fact_of}
 use Rattle.kernel.specs.Conclude.{from_none, from_one, from_two, conclude}
 use Rattle.kernel.specs.Concludes.{concludes, all_concluded}
-use Rattle.kernel.specs.Later.{IsLater}
+use Rattle.terms.specs.Later.{IsLater}
 use Rattle.kernel.specs.Laws.{ProofsStay}
 
 -- names of two lists
@@ -148,7 +149,7 @@ module _ (W V : World) (sound : Sound V) (later : IsLater W V) where
       by_definition : (q : Option Definition) → find F.defs f ≡ q → arity_by None q (lookup F.vars f) ≡ Some k → arity_by None (find G.defs f) (lookup G.vars f) ≡ Some k
       by_definition None h e' =
           let v = variable_later f k e' in
-          let a = sound.apart f k v in
+          let a = vars_apart V sound f k v in
           ap (λ o. arity_by None o (lookup G.vars f)) a.1 ∙ v
       by_definition (Some d) h e' = ap (λ o. arity_by None o (lookup G.vars f)) (find_later f d h) ∙ e'
 

@@ -6,7 +6,7 @@ ghost use Rattle.proof_objects.specs.ProofTrees.{By, trees};
 ghost use Rattle.kernel.specs.Concludes.{concludes, all_concluded};
 ghost use Rattle.kernel.specs.Conclude.{code_of};
 ghost use Rattle.kernel.specs.Conclusion.{IsProvedBy, alone, after, after_both, proofs_of, sequents_of, AllIn};
-ghost use Rattle.kernel.specs.Later.{IsLater};
+ghost use Rattle.terms.specs.Later.{IsLater};
 ghost use Rattle.kernel.specs.Ring.{ring_code};
 ghost use Rattle.kernel.specs.Answers.{IfLimit, IsWithinLimits};
 

@@ -1,7 +1,7 @@
 //! Steps one after the other, each from earlier ones by their numbers, from 1.
 
 ghost use Rattle.std.specs.Prelude.{◌≡◌, IfOk, IfSome, IsErrOf, None, Some};
-ghost use Rattle.std.specs.Option.{option_copied, option_map};
+ghost use Rattle.std.specs.Option.{option_map};
 ghost use Rattle.kernel.specs.Conclude.{code_from};
 ghost use Rattle.kernel.specs.Conclusion.{sequents_of, AllIn};
 ghost use Rattle.kernel.specs.Facts.{item};
@@ -44,20 +44,26 @@ fn picked(
 {
     let mut premises = Seq::new(alloc);
     for number in from {
-        match earlier(done, *number) {
-            Some(premise) => premises.push(premise.share()?)?,
-            None => return Ok(None),
-        }
+        let Some(premise) = earlier(done, *number)? else {
+            return Ok(None);
+        };
+        premises.push(premise)?;
     }
     Ok(Some(premises))
 }
 
-fn earlier<'a>(done: &'a [Proved], number: u32) -> Option<&'a Proved>
-    ensures { option_copied result ≡ item done.now number }
+/// The earlier step of this number, with one more owner.
+fn earlier(done: &[Proved], number: u32) -> Result<Option<Proved>, Memory>
+    ensures { IfOk result (λ o. o ≡ item done.now number) }
 {
     if number == 0 {
-        None
-    } else {
-        done.get(number as usize - 1)
+        return Ok(None);
+    }
+    match done.get(number as usize - 1) {
+        Some(premise) => {
+            let premise = premise.share()?;
+            Ok(Some(premise))
+        }
+        None => Ok(None),
     }
 }

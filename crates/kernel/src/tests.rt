@@ -1,3 +1,5 @@
+//! Rules and checks as they run.
+
 ghost use Rattle.std.specs.Prelude.{◌≡◌, [], ◌∷◌, IfOk, None, codes, map};
 ghost use Rattle.std.specs.Char.{to_ascii_uppercase};
 ghost use Rattle.terms.specs.Terms.{Var};

@@ -1,4 +1,4 @@
-//! The reader of books (docs/BOOKS.md).
+//! The reader of books (docs/SYNTAX.md).
 #![tactic(auto)]
 
 mod laws;

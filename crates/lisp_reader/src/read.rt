@@ -22,7 +22,7 @@ use std::alloc::Global;
 /// Why no form is read.
 #[derive(Clone, Copy, Debug, PartialEq, Eq)]
 pub enum ReadError {
-    /// The first fault of the book, by its code (docs/BOOKS.md), and its place.
+    /// The first fault of the book, by its code (docs/SYNTAX.md, "Faults"), and its place.
     Refused { code: Code, place: u64 },
     Memory,
 }

@@ -137,7 +137,7 @@ impl<'a> FormReader<'a> {
         }
     }
 
-    /// The next form, `None` at the end of the book, or its first fault (docs/BOOKS.md), which every later call answers again.
+    /// The next form, `None` at the end of the book, or its first fault (docs/SYNTAX.md, "Faults"), which every later call answers again.
     pub fn next(&mut self, alloc: Global) -> Result<Option<Located>, ReadError>
         ensures next { SaysNext self.old result self.new }
         ensures proper { FindsProper result }

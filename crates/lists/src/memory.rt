@@ -1,3 +1,5 @@
+//! The error of being out of memory.
+
 use std::alloc::{AllocError, AllocFailed};
 
 /// There was no memory for it.

@@ -1,3 +1,5 @@
+//! Lists that contracts see as lists of their items.
+
 ghost use Rattle.std.specs.Prelude.{◌≡◌, ◌↔◌, [], ◌∷◌, ◌++◌, ◌<◌, length, take, slice_get, slice_set, IfOk, IsSome, OnOk, OnErr};
 ghost use Rattle.std.specs.Option.{option_copied};
 

@@ -1,3 +1,5 @@
+//! Shared data gets one more owner.
+
 ghost use Rattle.std.specs.Prelude.{◌≡◌, IfOk};
 
 use crate::memory::Memory;

@@ -1,14 +1,14 @@
 //! The world with what a plan makes.
 
 ghost use Rattle.std.specs.Prelude.{◌≡◌, true, IfOk, IsErrOf, Ok};
-ghost use Rattle.terms.specs.Sound.{add_theorem};
+ghost use Rattle.terms.specs.Sound.{AllHold, iso_conditions, add_theorem, add_iso};
 ghost use Rattle.worlds.specs.Names.{is_free};
 ghost use Rattle.plans.specs.Entries.{Admits, AdmitsAll, IsNewTheorem, add_entry, add_entries};
 
 use crate::plan::Entry;
 use lisp_data::{Memory, Symbol};
 use std::alloc::Global;
-use terms::Sequent;
+use terms::{Iso, Sequent};
 use worlds::{World, WorldError};
 
 /// A larger world, whose new name is free.
@@ -40,6 +40,15 @@ fn with_new_theorem(
     grown(world.with_theorem(alloc, name, sequent))
 }
 
+fn with_new_iso(alloc: Global, world: &World, iso: &Iso) -> Result<World, Memory>
+    requires free { is_free world.now iso.now.name ≡ true }
+    requires holds { AllHold world.now.functions (iso_conditions iso.now) }
+    ensures { IfOk result (λ next. next ≡ add_iso iso.now world.now) }
+{
+    let iso = iso.copy(alloc)?;
+    grown(world.with_iso(alloc, iso))
+}
+
 /// The world with one more entry.
 fn with_entry(alloc: Global, world: &World, entry: &Entry) -> Result<World, Memory>
     requires { Admits world.now entry.now }
@@ -52,7 +61,7 @@ fn with_entry(alloc: Global, world: &World, entry: &Entry) -> Result<World, Memo
         Entry::Variable(name, arity) => grown(world.with_variable(alloc, name.share()?, *arity)),
         Entry::Theorem(name, sequent) => with_new_theorem(alloc, world, name, sequent),
         Entry::Spec(specification) => grown(world.with_spec(alloc, specification.copy(alloc)?)),
-        Entry::Isomorphism(iso) => grown(world.with_iso(alloc, iso.copy(alloc)?)),
+        Entry::Isomorphism(iso) => with_new_iso(alloc, world, iso),
         Entry::Instance(of, pairs, instance) => {
             world.with_instance(alloc, of.share()?, pairs.copy(alloc)?, instance.share()?)
         }

@@ -1,3 +1,5 @@
+//! Which calls of a port fail, by their numbers.
+
 ghost use Rattle.std.specs.Prelude.{◌≡◌, ◌≤◌, IsTrue};
 ghost use Rattle.ports.specs.Causes.{Rose};
 ghost use Rattle.ports.specs.Calls.{uncalled, next_fails, failures, after_call};

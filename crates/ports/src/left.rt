@@ -1,3 +1,5 @@
+//! The bytes that a source has left.
+
 ghost use Rattle.std.specs.Prelude.{◌≡◌, ◌<◌, ◌≤◌, ◌++◌, [], length, take, min};
 ghost use Rattle.ports.specs.InMemory.{unbounded};
 

@@ -1,3 +1,5 @@
+//! A sink in memory, some of whose calls fail.
+
 ghost use Rattle.std.specs.Prelude.{◌≡◌, ◌<◌, IfOk, MatchOption, Some, None, []};
 ghost use Rattle.ports.specs.Calls.{uncalled};
 ghost use Rattle.ports.specs.InMemory.{unbounded};

@@ -1,3 +1,5 @@
+//! A source in memory, some of whose calls fail.
+
 ghost use Rattle.std.specs.Prelude.{◌≡◌, ◌<◌};
 ghost use Rattle.ports.specs.Calls.{uncalled};
 ghost use Rattle.ports.specs.InMemory.{unbounded};

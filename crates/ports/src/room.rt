@@ -1,3 +1,5 @@
+//! The room of a sink in memory.
+
 ghost use Rattle.std.specs.Prelude.{◌≡◌, IfOk, MatchOption, Some, None, []};
 ghost use Rattle.ports.specs.InMemory.{held_after};
 

@@ -1,3 +1,5 @@
+//! Sinks: what takes bytes, and counts its faults.
+
 ghost use Rattle.std.specs.Prelude.{◌≡◌, ℕ, ◌<◌, ◌≤◌, List, Option, length, IfOk, OnOk, OnErr};
 ghost use Rattle.ports.specs.Causes.{HasCause};
 ghost use Rattle.ports.specs.Streams.{Puts, Grows, GrowsByFront};

@@ -1,3 +1,5 @@
+//! Sources: what gives bytes, and counts its faults.
+
 ghost use Rattle.std.specs.Prelude.{◌≡◌, ℕ, ◌<◌, ◌≤◌, List, Option, length, IfOk};
 ghost use Rattle.std.specs.Io.{ReadsAtMost};
 ghost use Rattle.ports.specs.Causes.{HasCause, Rose};

@@ -1,3 +1,5 @@
+//! A sink in memory whose calls never fail.
+
 ghost use Rattle.std.specs.Prelude.{◌≡◌, IfOk, MatchOption, Some, None, []};
 
 use crate::room::Room;

@@ -1,3 +1,5 @@
+//! A source in memory whose calls never fail.
+
 ghost use Rattle.std.specs.Prelude.{◌≡◌, ◌<◌};
 ghost use Rattle.ports.specs.InMemory.{unbounded};
 

@@ -1,8 +1,8 @@
 //! Proofs, as steps with their subproofs.
 
-ghost use Rattle.std.specs.Prelude.{◌≡◌, IfOk};
-ghost use Rattle.proof_objects.specs.ProofTrees.{By, trees};
-ghost use Rattle.proof_objects.specs.ProofView.{tree_of};
+ghost use Rattle.std.specs.Prelude.{◌≡◌, ◌≤◌, IfOk};
+ghost use Rattle.proof_objects.specs.ProofTrees.{By, trees, depths};
+ghost use Rattle.proof_objects.specs.ProofView.{tree_of, chain_depth};
 
 use crate::step::Step;
 use lisp_data::{Memory, Seq};
@@ -13,7 +13,7 @@ use std::rc::Rc;
 /// A proof, shared. Contracts see it as plain data. What it concludes is said in docs/KERNEL.md.
 #[cycle(proof)]
 pub struct Proof {
-    node: Rc<ProofNode>,
+    shared: Rc<Shared>,
 }
 
 /// The last step of a proof, with the subproofs in order.
@@ -24,29 +24,58 @@ pub struct ProofNode {
     pub subproofs: Seq<Proof>,
 }
 
+/// A node, and one more owner of its last subproof, so that a long chain is let go in a loop.
+#[cycle(proof)]
+#[derive(Drop)]
+struct Shared {
+    node: Rc<ProofNode>,
+    chain: Chain,
+}
+
+#[cycle(proof)]
+#[derive(Drop)]
+enum Chain {
+    End,
+    More(Proof),
+}
+
+// As a loop, since a derived one would call itself once for each step of a long chain.
 impl Drop for Proof {
     #[cycle(proof)]
-    fn drop(self) {
-        let Proof { node: _ } = self;
+    fn drop(mut self) {
+        loop {
+            let Proof { shared } = self;
+            let Some(shared) = Rc::into_inner(shared) else {
+                return;
+            };
+            let Shared { node: _, chain } = shared;
+            let Chain::More(next) = chain else {
+                return;
+            };
+            self = next;
+        }
     }
 }
 
 impl Model for Proof {
+    ghost use Rattle.std.specs.Prelude.{◌≤◌};
     ghost use Rattle.proof_objects.specs.ProofTrees.{ProofTree, tree_code, depth};
 
     ghost Value = { ProofTree };
 
     ghost coded = { tree_code };
 
-    ghost use Rattle.proof_objects.specs.ProofView.{tree_of};
+    ghost use Rattle.proof_objects.specs.ProofView.{tree_of, chain_depth};
 
-    ghost view = { λ p. tree_of p.node.value };
+    ghost view = { λ p. tree_of p.shared.value.node.value };
+
+    ghost invariant = { λ p. chain_depth p.shared.value.chain ≤ depth (tree_of p.shared.value.node.value) };
 
     ghost size = { depth };
 
-    ghost use Rattle.proof_objects.specs.ProofFalls.{parts_below};
+    ghost use Rattle.proof_objects.specs.ProofFalls.{shared_below};
 
-    ghost size_decreases = { λ a h. parts_below a.node.value };
+    ghost size_decreases = { λ a h. shared_below a.shared.value h };
 }
 
 impl Proof {
@@ -54,21 +83,36 @@ impl Proof {
     pub fn new(alloc: Global, step: Step, subproofs: Seq<Proof>) -> Result<Proof, Memory>
         ensures { IfOk result (λ p. p ≡ By step (trees subproofs)) }
     {
+        let chain = last_of(subproofs.as_slice())?;
         let node = Rc::new(alloc, ProofNode { step, subproofs })?;
-        Ok(Proof { node })
+        let shared = Rc::new(alloc, Shared { node, chain })?;
+        Ok(Proof { shared })
     }
 
     pub fn node(&self) -> &ProofNode
         ensures { tree_of result.now ≡ self.now }
     {
-        &self.node
+        &self.shared.node
     }
 
     /// The same proof, with one more owner.
     pub fn share(&self) -> Result<Proof, Memory>
         ensures { IfOk result (λ p. p ≡ self.now) }
     {
-        let node = self.node.clone()?;
-        Ok(Proof { node })
+        let shared = self.shared.clone()?;
+        Ok(Proof { shared })
+    }
+}
+
+#[tactic(auto, using(crate::proofs::Subproofs::subproofs))]
+fn last_of(subproofs: &[Proof]) -> Result<Chain, Memory>
+    ensures { IfOk result (λ c. chain_depth c ≤ depths (trees subproofs.now)) }
+{
+    match subproofs.last() {
+        Some(last) => {
+            let last = last.share()?;
+            Ok(Chain::More(last))
+        }
+        None => Ok(Chain::End),
     }
 }

@@ -3,3 +3,4 @@ pub mod PartLemmas
 pub mod StepLemmas
 pub mod ReadLemmas
 pub mod PrintLemmas
+pub mod AgainLemmas

@@ -1,5 +1,5 @@
 -- The forms of proofs, one part at a time.
-use Rattle.std.proofs.Common.{codes, min,  Option, Some, None, slice_get, ◌≡◌, ℕ, zero, suc, ◌+◌, ◌<◌, ◌≤◌, true, List, [], ◌∷◌, ◌++◌, length, get_or, map, drop, take, append_assoc, refl, ap, sym, subst, ◌∙◌, arith}
+use Rattle.std.proofs.Common.{codes, min, Option, Some, None, slice_get, ◌≡◌, ℕ, zero, suc, ◌+◌, ◌<◌, ◌≤◌, true, List, [], ◌∷◌, ◌++◌, length, get_or, map, drop, take, append_assoc, refl, ap, sym, subst, ◌∙◌, arith}
 use Rattle.std.proofs.lemmas.List.{append-nil, drop_all}
 use Rattle.lisp_data.specs.Datum.{Datum, PairForm, chain, nil_form}
 use Rattle.lisp_data.proofs.Chains.{form_of-int, form_of-sym}

@@ -39,7 +39,7 @@ chain-items (PairForm a d) xs e = by_rest (items_of d) e (λ ys q. chain-items d
         ap (PairForm a) (ih ys q) ∙ ap (λ zs. chain zs nil_form) n
 
 module _ (W : World) where
-  list_tree : (xs : List Datum) → tree_of W (chain xs nil_form) ≡ tree_of_list W xs
+  pub list_tree : (xs : List Datum) → tree_of W (chain xs nil_form) ≡ tree_of_list W xs
   list_tree [] = refl
   list_tree (x ∷ xs) = ap (λ o. and_then (word_before x o) (λ w. and_then (parts_from W nothing (kinds_of w) (chain xs nil_form)) (tree_by w))) (items_of-chain xs)
 

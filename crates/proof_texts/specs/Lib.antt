@@ -7,3 +7,4 @@ pub mod StepParts
 pub mod ProofTexts
 pub mod Given
 pub mod Printing
+pub mod Laws

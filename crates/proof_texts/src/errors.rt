@@ -4,10 +4,10 @@ use lisp_data::{Code, Detail, Memory, Symbol, SymbolError};
 use std::alloc::Global;
 use term_forms::TermError;
 
-/// Why a text is no proof (docs/PROOFS.md, "What is refused").
+/// Why a text is no proof (docs/SYNTAX.md, "Texts of proofs").
 #[derive(Drop)]
 pub enum ProofError {
-    /// The text is refused (docs/PROOFS.md, "What is refused").
+    /// The text is refused (docs/SYNTAX.md, "Texts of proofs").
     Refused { code: Code, detail: Detail },
     Memory,
 }

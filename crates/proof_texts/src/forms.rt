@@ -8,7 +8,7 @@ ghost use Rattle.proof_texts.specs.Items as spec;
 
 use lisp_data::{Form, Symbol, Symbols};
 
-/// The items of a list without a point; NIL is the list of none (docs/BOOKS.md, "Forms").
+/// The items of a list without a point; NIL is the list of none (docs/SYNTAX.md, "Forms").
 #[tactic(auto, using(crate::proofs::ItemLemmas::item_steps))]
 pub fn items(form: &Form) -> Option<&[Form]>
     requires { IsProper form.now }
@@ -31,7 +31,7 @@ pub fn items(form: &Form) -> Option<&[Form]>
     }
 }
 
-/// The symbol of a form, if it is one (docs/BOOKS.md, "Forms").
+/// The symbol of a form, if it is one (docs/SYNTAX.md, "Forms").
 #[tactic(auto, using(crate::proofs::ItemLemmas::no_symbols))]
 pub fn symbol(form: &Form) -> Option<&Symbol>
     requires { IsProper form.now }
@@ -43,7 +43,7 @@ pub fn symbol(form: &Form) -> Option<&Symbol>
     }
 }
 
-/// What a string holds (docs/BOOKS.md, "Forms").
+/// What a string holds (docs/SYNTAX.md, "Forms").
 #[tactic(auto, using(crate::proofs::ItemLemmas::no_texts))]
 pub fn text(form: &Form) -> Option<&[u8]>
     requires { IsProper form.now }
@@ -55,7 +55,7 @@ pub fn text(form: &Form) -> Option<&[u8]>
     }
 }
 
-/// Whether a form is the symbol of this text (docs/BOOKS.md, "Forms").
+/// Whether a form is the symbol of this text (docs/SYNTAX.md, "Forms").
 pub fn is_word(form: &Form, word: &str) -> bool
     requires { IsProper form.now }
     ensures { result ≡ spec.is_word word.now (form_of form.now) }
@@ -66,7 +66,7 @@ pub fn is_word(form: &Form, word: &str) -> bool
     }
 }
 
-/// Whether a text is one of these words (docs/BOOKS.md, "Names").
+/// Whether a text is one of these words (docs/SYNTAX.md, "Names").
 pub fn is_among(words: &[&str], text: &[u8]) -> bool
     ensures { result ≡ is_in (map (λ w. w.now) words.now) text.now }
 {
@@ -78,7 +78,7 @@ pub fn is_among(words: &[&str], text: &[u8]) -> bool
     false
 }
 
-/// Whether a symbol is one of these (docs/BOOKS.md, "Names").
+/// Whether a symbol is one of these (docs/SYNTAX.md, "Names").
 pub fn contains(names: &Symbols, name: &Symbol) -> bool
     ensures { result ≡ is_in names.now name.now }
 {

@@ -12,8 +12,8 @@ use crate::errors::ProofError;
 use crate::forms::{is_word, items, symbol};
 use lisp_data::{Form, Symbol};
 use std::alloc::Global;
-use terms::{ FactName, FunPair, FunPairs, Path, Subst, Term, Terms};
 use term_forms::{Scope, is_variable_name, translate};
+use terms::{FactName, FunPair, FunPairs, Path, Subst, Term, Terms};
 use worlds::World;
 
 /// A term, in which any variable may stand.
@@ -114,12 +114,7 @@ fn new_variable<'a>(alloc: Global, s: &Subst, form: &'a Form) -> Result<&'a Symb
 }
 
 /// The pairs before this one, and it: a variable with its term.
-fn with_pair(
-    alloc: Global,
-    world: &World,
-    mut s: Subst,
-    pair: &Form,
-) -> Result<Subst, ProofError>
+fn with_pair(alloc: Global, world: &World, mut s: Subst, pair: &Form) -> Result<Subst, ProofError>
     requires { IsProper pair.now }
     ensures { Says (λ s. s) (spec.with_pair world.now s (items.items_of (form_of pair.now))) result }
 {

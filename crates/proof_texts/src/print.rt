@@ -278,7 +278,7 @@ fn cases_forms(alloc: Global, cases: &[InductionCase], proofs: &[Proof]) -> Resu
     Ok(items)
 }
 
-/// Writes the text of a proof at the end of a text (docs/PROOFS.md, "The rules"). Where there is no memory the text is as before.
+/// Writes the text of a proof at the end of a text (docs/SYNTAX.md, "Texts of proofs"). Where there is no memory the text is as before.
 pub fn print_proof(alloc: Global, proof: &Proof, out: &mut Text) -> Result<(), Memory>
     ensures ok { OnOk result (out.new ≡ out.old ++ spec.proof_text proof.now) }
     ensures again { OnOk result (IsReadAgain (spec.form_of_proof proof.now)) }

@@ -289,7 +289,7 @@ fn each_built(proofs: &[Proof]) -> bool
     true
 }
 
-/// The proof whose text a form is, or the first refusal (docs/PROOFS.md, "What is refused").
+/// The proof whose text a form is, or the first refusal (docs/SYNTAX.md, "Texts of proofs").
 pub fn read_proof(alloc: Global, world: &World, form: &Form) -> Result<Proof, ProofError>
     requires { IsProper form.now }
     ensures { Says (λ p. p) (spec.proof_of world.now (form_of form.now)) result }

@@ -165,7 +165,11 @@ pub(crate) fn step_of(word: Word, parts: Vec<Part>) -> Option<Step>
         }
         Word::Rule(Rule::Cases) => Some(Step::Cases(one(parts)?.term()?)),
         Word::Rule(Rule::Cut) => {
-            if parts.is_empty() { Some(Step::Cut) } else { None }
+            if parts.is_empty() {
+                Some(Step::Cut)
+            } else {
+                None
+            }
         }
         Word::Rule(Rule::Weaken) => {
             let (hyps, universals) = two(parts)?;
@@ -182,18 +186,24 @@ pub(crate) fn step_of(word: Word, parts: Vec<Part>) -> Option<Step>
         }
         Word::Rule(Rule::ImpliesIn) => Some(Step::ImpliesIn(one(parts)?.term()?)),
         Word::Rule(Rule::ImpliesOut) => {
-            if parts.is_empty() { Some(Step::ImpliesOut) } else { None }
+            if parts.is_empty() {
+                Some(Step::ImpliesOut)
+            } else {
+                None
+            }
         }
         Word::Rule(Rule::Universal) => {
             let (universal, s) = two(parts)?;
             Some(Step::Universal(universal.term()?, s.substitution()?))
         }
         Word::Rule(Rule::Discharge) => {
-            if parts.is_empty() { Some(Step::Discharge) } else { None }
+            if parts.is_empty() {
+                Some(Step::Discharge)
+            } else {
+                None
+            }
         }
-        Word::Rule(Rule::Theorem) => {
-            Some(Step::Theorem(FactName::Theorem(one(parts)?.name()?)))
-        }
+        Word::Rule(Rule::Theorem) => { Some(Step::Theorem(FactName::Theorem(one(parts)?.name()?))) }
         Word::Measure => {
             let (function, number) = two(parts)?;
             Some(Step::Theorem(FactName::Measure(function.name()?, number.number()?)))
@@ -220,7 +230,6 @@ pub(crate) fn is_built(step: &Step) -> bool
     match step {
         Step::Eval(_) => false,
         Step::Theorem(FactName::Measure(_, _)) => false,
-        Step::Theorem(FactName::Isomorphism(_, _)) => false,
         Step::Instance(_, _) => false,
         Step::Induct(_, _) => false,
         _ => true,

@@ -5,7 +5,7 @@ ghost use Rattle.proof_texts.specs.Words as spec;
 
 use proof_objects::Rule;
 
-/// What a part of a proof's text is (docs/PROOFS.md, "The parts of a text").
+/// What a part of a proof's text is (docs/SYNTAX.md, "Texts of proofs").
 #[derive(Clone, Copy, Debug, PartialEq, Eq)]
 pub enum Kind {
     /// A subproof.
@@ -44,7 +44,7 @@ impl Kind {
     }
 }
 
-/// The word that begins a proof's text: its rule's, or that of a fact that is no theorem (docs/PROOFS.md, "The rules").
+/// The word that begins a proof's text: its rule's, or that of a fact that is no theorem (docs/SYNTAX.md, "Texts of proofs").
 #[derive(Clone, Copy, Debug, PartialEq, Eq)]
 pub enum Word {
     Rule(Rule),
@@ -81,7 +81,7 @@ const WORDS: [Word; 23] = [
 ];
 
 impl Word {
-    /// How it is written, a keyword in upper case (docs/PROOFS.md, "The rules").
+    /// How it is written, a keyword in upper case (docs/SYNTAX.md, "Texts of proofs").
     pub fn text(self) -> &'static str
         ensures { result.now ≡ spec.text_of self }
     {
@@ -92,7 +92,7 @@ impl Word {
         }
     }
 
-    /// What the parts behind it are, in order: reading and printing go by this table alone (docs/PROOFS.md, "The rules").
+    /// What the parts behind it are, in order: reading and printing go by this table alone (docs/SYNTAX.md, "Texts of proofs").
     pub fn kinds(self) -> &'static [Kind]
         ensures { result.now ≡ spec.kinds_of self }
     {
@@ -123,7 +123,7 @@ impl Word {
         }
     }
 
-    /// The word that is written so (docs/PROOFS.md, "The rules").
+    /// The word that is written so (docs/SYNTAX.md, "Texts of proofs").
     #[tactic(auto, unfolding(crate::specs::Words::words))]
     pub fn of(text: &str) -> Option<Word>
         ensures { result ≡ spec.word_of text.now }

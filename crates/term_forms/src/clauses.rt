@@ -1,4 +1,4 @@
-//! The clauses of `cond` (docs/BOOKS.md, "Terms").
+//! The clauses of `cond` (docs/SYNTAX.md, "Terms").
 
 ghost use Rattle.std.specs.Prelude.{◌≡◌, IfOk};
 ghost use Rattle.term_forms.specs.Clauses.{open_clauses, choice, behind_open};

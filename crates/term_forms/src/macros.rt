@@ -1,4 +1,4 @@
-//! Words that stand for other terms (docs/BOOKS.md, "Terms").
+//! Words that stand for other terms (docs/SYNTAX.md, "Terms").
 
 ghost use Rattle.std.specs.Prelude.{◌≡◌, true, [], ◌∷◌, length, map, IfOk};
 ghost use Rattle.std.specs.Option.{option_map};

@@ -1,4 +1,4 @@
-//! Which symbols are names (docs/BOOKS.md, "Names").
+//! Which symbols are names (docs/SYNTAX.md, "Names").
 
 ghost use Rattle.std.specs.Prelude.{◌≡◌};
 ghost use Rattle.term_forms.specs.Names as spec;
@@ -31,14 +31,14 @@ fn ends_with(byte: u8, name: &[u8]) -> bool
     }
 }
 
-/// A symbol other than T, NIL and a keyword (docs/BOOKS.md, "Names").
+/// A symbol other than T, NIL and a keyword (docs/SYNTAX.md, "Names").
 pub fn is_function_name(name: &Symbol) -> bool
     ensures { result ≡ spec.is_function_name name.now }
 {
     !is_constant_name(name.text().as_bytes())
 }
 
-/// A function name that begins with no `&`, and doesn't begin and end with `*` (docs/BOOKS.md, "Names").
+/// A function name that begins with no `&`, and doesn't begin and end with `*` (docs/SYNTAX.md, "Names").
 pub fn is_variable_name(name: &Symbol) -> bool
     ensures { result ≡ spec.is_variable_name name.now }
 {

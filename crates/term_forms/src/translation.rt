@@ -1,4 +1,4 @@
-//! The translation of forms to terms (docs/BOOKS.md, "Terms").
+//! The translation of forms to terms (docs/SYNTAX.md, "Terms").
 
 ghost use Rattle.std.specs.Prelude.{◌≡◌, ◌<◌, length, map, Ok};
 ghost use Rattle.lisp_data.specs.Datum.{chain, nil_form, PairForm, SymForm};
@@ -28,7 +28,7 @@ use terms::{Signatures, Term};
 /// Why a form is no term.
 #[derive(Drop)]
 pub enum TermError {
-    /// The form, or a part of it, is refused (docs/BOOKS.md, "Terms").
+    /// The form, or a part of it, is refused (docs/SYNTAX.md, "Terms").
     Refused { code: Code, detail: Detail },
     Memory,
 }

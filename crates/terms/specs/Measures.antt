@@ -89,7 +89,7 @@ abbrev pub falls : List Name → Tm → RecursiveCall → Sequent
 falls formals m c =
     record { universals = []; hyps = without_repeats c.tests; goal = call2 (codes "<") (substitute (by_args formals c.args) m) m }
 
--- (a recursive definition has a measure where it is well formed; the case without one never comes)
+-- a recursive definition without a measure is not well formed, so that its clause, which owes nothing, is never met
 abbrev pub owed_by : Definition → Option Tm → List Sequent
 owed_by d None = []
 owed_by d (Some m) = is_natural m ∷ map (falls d.formals m) (recursive_calls d.name [] d.body)

@@ -1,7 +1,7 @@
 //! Tests of the calls on terms that take memory.
 
 use super::*;
-use lisp_data::{Symbol, Value};
+use lisp_data::{Symbol, Symbols, Value};
 use std::alloc::Global;
 use std::test::Fail;
 
@@ -45,5 +45,45 @@ fn replaces_parts_and_variables(rt: HostRuntime) -> Result<(), Fail> {
     }
     let away = Path::from_slice(alloc, &[3])?;
     assert!(rt; put_at(alloc, &term, &away, &two)?.is_none());
+    Ok(())
+}
+
+#[test]
+fn copies_what_a_world_holds(rt: HostRuntime) -> Result<(), Fail> {
+    let alloc = rt.alloc();
+    let name = Symbol::new(alloc, "F")?;
+    let term = variable(alloc, "X")?;
+    let mut images = Subst::new(alloc);
+    images.push(name.share()?, term.share()?)?;
+    assert_eq!(rt; images.copy(alloc)?.len(), 1);
+    let specification = Specification {
+        name: name.share()?,
+        variables: Symbols::new(alloc),
+        matrix: term.share()?,
+    };
+    assert!(rt; specification.copy(alloc)?.matrix.same(&term));
+    let iso = Iso {
+        name: name.share()?,
+        oldp: name.share()?,
+        newp: name.share()?,
+        forth: name.share()?,
+        back: name.share()?,
+    };
+    assert!(rt; iso.copy(alloc)?.back.same(&name));
+    let mut maps = IsoUses::new(alloc);
+    maps.push(IsoUse {
+        position: 1,
+        oldp: name.share()?,
+        forth: name.share()?,
+    })?;
+    let link = Link::Isomorphism {
+        old: name.share()?,
+        new: name.share()?,
+        maps,
+    };
+    match link.copy(alloc)? {
+        Link::Isomorphism { maps, .. } => assert_eq!(rt; maps.len(), 1),
+        _ => assert!(rt; false),
+    }
     Ok(())
 }

@@ -80,10 +80,10 @@ impl Sealed {
         })
     }
 
-    /// How many more entries a world may have before it is sealed anew: enough that all copies of indexes together
-    /// take time in proportion to the entries, and few enough that the others are soon walked.
+    /// How many more entries a world may have before it is sealed anew. It grows with the names, so that all copies of
+    /// indexes together take time in proportion to them; no walk and no recursion is longer than 4,096 entries.
     pub(crate) fn distance(&self) -> usize {
-        (self.index.len() / 64).max(128).min(4096)
+        (self.index.len() / 16).max(128).min(4096)
     }
 
     /// The number of arguments of the primitive of this name.
@@ -93,7 +93,7 @@ impl Sealed {
         self.words.operands(name)
     }
 
-    /// Whether the name is reserved (docs/BOOKS.md).
+    /// Whether the name is reserved (docs/SYNTAX.md, "Names").
     pub(crate) fn is_reserved(&self, name: &Symbol) -> bool
         ensures { result ≡ is_in reserved name.now }
     {

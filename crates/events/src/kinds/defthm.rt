@@ -13,8 +13,8 @@ use lisp_data::{Form, Symbol, Symbols};
 use lists::{Memory, Text};
 use plans::{Condition, Entry, Plan};
 use std::alloc::Global;
-use terms::{Sequent, Term, Terms};
 use term_forms::{Scope, translate};
+use terms::{Sequent, Term, Terms};
 use worlds::World;
 
 /// `(defthm n formula .. :proof proof)`.

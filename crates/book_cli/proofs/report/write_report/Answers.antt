@@ -1,5 +1,6 @@
 use Rattle.std.proofs.Common.{ℕ, ◌≡◌, ◌∷◌, ◌∙◌, ◌||◌, ◌&&◌, [], None, Some, true, sym, subst, ap, arith}
 use Rattle.lisp_data.specs.Datum.{Datum}
+use Rattle.lisp_data.specs.declared.code.Code.{Code}
 use Rattle.lisp_data.specs.FormView.{form_of}
 use Rattle.ports.proofs.Streams.{Grows-nil}
 use Rattle.terms.specs.Worlds.{World}
@@ -65,7 +66,7 @@ returns-in_err-write_last-in-Ok-None-clause-cut g c =
 
 pub returns-in_err-write_fault-in-Refused-clause-cut : goal.returns-in_err-write_fault-in-Refused-clause-cut
 returns-in_err-write_fault-in-Refused-clause-cut g c =
-    let fault : ℕ × ℕ = (c.in-Refused.code, c.in-Refused.place) in
+    let fault : Code × ℕ = (c.in-Refused.code, c.in-Refused.place) in
     let last : (c.events.reader ≡ ([], Some fault)) × (c.next.new.self ≡ c.events.reader) = (rw c.in-Refused.is at c.in-Err.ensures).next in
     on_err c.from_residual-in_err-write_fault-in-Refused.result
     (begun_last_cut _ (g.K.Sink.held c.events.out) _ _ (end_lines c.events.progress (Some fault)) _ c.events.invariant.begun

@@ -22,7 +22,7 @@ abbrev pub invariant-laid-loop-kind : goal.invariant-laid-loop-kind
 invariant-laid-loop-kind l = record {
   shallow : depths (trees l.proofs) ≤ depths (trees l.fn.proofs);
   same : forms_of l.items ++ spec.laid (drop l.kind-index l.kind-items) (map seen l.given) (map spec.form_of_proof l.proofs)
-    ≡ spec.word_form l.fn.word ∷ spec.laid (spec.kinds_of l.fn.word) (map seen l.fn.given) (map spec.form_of_proof l.fn.proofs);
+      ≡ spec.word_form l.fn.word ∷ spec.laid (spec.kinds_of l.fn.word) (map seen l.fn.given) (map spec.form_of_proof l.fn.proofs);
 }
 
 abbrev pub invariant-cases_forms-loop-i : goal.invariant-cases_forms-loop-i
