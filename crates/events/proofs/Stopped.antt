@@ -20,7 +20,7 @@ at_limit condition node rule _ h = refl
 at_node : (condition : Name) (bad : Option BadNode) (node : ℕ) (code : Code) → IsLimitAt bad node code → bad_node condition bad ≡ AtNode code condition node
 at_node condition None node code h = absurd h
 at_node condition (Some bad) node code h =
-    ap (λ k. refused_at condition bad.node bad.rule k) h.1.0 ∙ at_limit condition bad.node bad.rule code h.1.1 ∙ ap (λ n. AtNode code condition n) h.0
+    ap (λ k. refused_at condition bad.node bad.rule k) h.1 ∙ at_limit condition bad.node bad.rule code h.2 ∙ ap (λ n. AtNode code condition n) h.0
 
 -- a condition whose proof stops at a limit
 pub stopped_at : (W : World) (c : Condition) (p : ProofTree) (node : ℕ) (code : Code) → concludes W p ≡ None → IsLimitAt (first_bad W 0 p) node code → by_conclusion W c p (concludes W p) ≡ Err (AtNode code c.name node)

@@ -66,7 +66,7 @@ all_distinct before (x ∷ xs) h =
 
 formals_distinct : (forms : List Datum) (xs : List Name) → formals_of forms ≡ Ok xs → Distinct xs
 formals_distinct forms xs e =
-    let p = if_ok (nat_le (length forms) MAX_FORMALS) (and_then (names_of forms) distinct) (12, detail.Word (codes "formals")) xs e in
+    let p = if_ok (nat_le (length forms) MAX_FORMALS) (and_then (names_of forms) distinct) (code.BadForm, detail.Word (codes "formals")) xs e in
     let q = then_ok (names_of forms) distinct xs p.1 in
     let r = map_ok (distinct_after [] q.0) (λ _. q.0) xs q.2 in
     subst Distinct r.2 (all_distinct [] q.0 r.1)
@@ -162,7 +162,7 @@ module _ (fit : TranslatedTermsFit) (W : World) (sound : Sound W) where
       let takes = with_own f (length xs) (arity F) in
       let m = map_ok (body_of W f xs body) (function f xs) d p.2 in
       let q = then_ok (translate takes (is_in xs) body) (unless_recursive f) m.0 m.1 in
-      let r = unless_ok (mentions f q.0) (Ok q.0) (11, detail.Absent) m.0 q.2 in
+      let r = unless_ok (mentions f q.0) (Ok q.0) (code.NotAnEvent, detail.Absent) m.0 q.2 in
       let t = q.0 in
       let is_body : t ≡ m.0 = cc in
       let is_function : function f xs t ≡ d = ap (function f xs) is_body ∙ m.2 in
@@ -187,5 +187,5 @@ module _ (fit : TranslatedTermsFit) (W : World) (sound : Sound W) where
 -- a name that may be given is free
 pub name_is_free : (W : World) (f : Name) → new_name W f ≡ Ok tt → is_free W f ≡ true
 name_is_free W f e =
-    let p = if_ok (is_function_name f) (if is_free W f then Ok tt else Err (code.NameTaken, detail.Name f)) (12, detail.Word (codes "name")) tt e in
+    let p = if_ok (is_function_name f) (if is_free W f then Ok tt else Err (code.NameTaken, detail.Name f)) (code.BadForm, detail.Word (codes "name")) tt e in
     (if_ok (is_free W f) (Ok tt) (code.NameTaken, detail.Name f) tt p.1).0

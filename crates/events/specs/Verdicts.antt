@@ -61,8 +61,9 @@ abbrev pub clause_of : List (Name × Datum) → Name → Option Datum
 clause_of [] n = None
 clause_of (p ∷ ps) n = if bytes_eq n p.0 then Some p.1 else clause_of ps n
 
--- how a condition is proved: by the proof of a text; a condition without one isn't proved yet
-abbrev pub way_by : World → Option Datum → Outcome Way
+-- How a condition is proved: by the proof of a text; a condition without one isn't proved yet. It is opened only where it is needed, since the
+-- reading of a proof would stand in each goal.
+unfoldable pub way_by : World → Option Datum → Outcome Way
 way_by W None = not_an_event
 way_by W (Some text) = map_outcome ByProof (proof_of W text)
 

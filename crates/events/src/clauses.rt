@@ -79,6 +79,7 @@ fn clause_of<'a>(clauses: &Clauses<'a>, name: &Symbol) -> Option<&'a Form>
 }
 
 /// How a condition is proved, from its text.
+#[tactic(auto, unfolding(crate::specs::Verdicts::way_by))]
 fn read_way(alloc: Global, world: &World, text: Option<&Form>) -> Result<Way, Halt>
     requires { IfSome text (λ text. IsProper text.now) }
     ensures { Reads (λ way. way) (spec.way_by world.now (option_map (λ text. form_of text.now) text.entry)) result }

@@ -1,7 +1,5 @@
 //! The conditions of an event, proved one after the other.
 
-ghost use Rattle.std.specs.Prelude.{◌≡◌, ◌<◌, ◌^◌};
-ghost use Rattle.proof_objects.specs.ProofTrees.{steps, steps_in, trees};
 ghost use Rattle.events.specs.Halts.{IsWrong, IsStopped, ProvesOne, ProvesAfter};
 
 use crate::clauses::Way;
@@ -9,33 +7,10 @@ use crate::halt::Halt;
 use crate::handle::ProvedList;
 use crate::refusal::Refusal;
 use kernel::{CheckError, Proved, RuleName, check};
-use plans::{Condition, proves};
 use lisp_data::Code;
-use proof_objects::Proof;
+use plans::{Condition, proves};
 use std::alloc::Global;
 use worlds::World;
-
-/// The number of a proof's last node.
-#[cycle(root)]
-fn root_number(proof: &Proof) -> u32
-    requires { steps proof.now < 2 ^ 32 }
-    ensures { result ≡ steps proof.now }
-{
-    last_number(proof.node().subproofs.as_slice()) + 1
-}
-
-/// The number of the last node of proofs that stand one after the other.
-#[cycle(root)]
-fn last_number(proofs: &[Proof]) -> u32
-    requires { steps_in (trees proofs.now) < 2 ^ 32 }
-    ensures { result ≡ steps_in (trees proofs.now) }
-{
-    let mut last = 0;
-    for proof in proofs {
-        last += root_number(proof);
-    }
-    last
-}
 
 /// A condition's proof is wrong at a node.
 fn wrong(condition: &Condition, node: u32, rule: RuleName) -> Halt
@@ -75,7 +50,7 @@ fn prove_one(alloc: Global, world: &World, condition: &Condition, way: &Way) -> 
             if proves(proved.sequent(), &condition.sequent) {
                 Ok(proved)
             } else {
-                Err(wrong(condition, root_number(proof), RuleName::Claim))
+                Err(wrong(condition, proof.steps(), RuleName::Claim))
             }
         }
         Err(error) => match error {

@@ -2,7 +2,7 @@ use Rattle.events.specs.Halts.{clauses_seen}
 use Rattle.events.proofs.HandleLemmas.{admitted}
 use Rattle.events.proofs.handle.carry_out.Goals as goal
 
-pub install-requires : goal.install-requires-clause-admits
+pub install-requires : goal.install-requires
 install-requires c =
     admitted c.args.world.now c.in_ok-share.field-0 c.soundness.ensures c.args.plan.now c.requires.lawful (clauses_seen c.args.clauses.now) c.as_slice-conditions.result.now c.new.result c.in_ok-ways.ways c.as_slice.result.now c.as_slice-2.result.now
     c.as_slice-conditions.ensures c.new.ensures c.in_ok-ways.ensures c.as_slice.ensures c.in_ok-before.ensures.accepted c.in_ok-share.ensures c.as_slice-2.ensures
