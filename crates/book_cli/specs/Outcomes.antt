@@ -80,3 +80,14 @@ pub record IsRefusedRun (continues : Bool) (left held held_after : Option (List 
   pub written : Grows held held_after (report_of continues read)
   pub one_refused : accepts_all read ≡ false
   pub sound : Sound (world_made continues read)
+
+-- how a run of a mode line ends without a fault: accepted where the book is, else refused; or out of memory
+abbrev pub IsSureEnd : (accepted : Bool) → Status → Type 0
+IsSureEnd true Accepted = ⊤
+IsSureEnd true Refused = ⊥
+IsSureEnd false Accepted = ⊥
+IsSureEnd false Refused = ⊤
+IsSureEnd accepted Usage = ⊥
+IsSureEnd accepted ReadFault = ⊥
+IsSureEnd accepted WriteFault = ⊥
+IsSureEnd accepted Memory = ⊤

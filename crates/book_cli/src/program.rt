@@ -5,8 +5,8 @@ ghost use Rattle.ports.specs.Causes.{Rose};
 ghost use Rattle.ports.specs.Streams.{GrowsByFront};
 ghost use Rattle.lisp_reader.specs.Grammar.{parse};
 ghost use Rattle.book_cli.specs.CommandLines.{IsModeLine, continues};
-ghost use Rattle.book_cli.specs.Report.{report, report_of};
-ghost use Rattle.book_cli.specs.Outcomes.{IsAcceptedRun, IsRefusedRun, IsReported, IsReportStatus, IsOfModeLine, IsUntouched, is_cut};
+ghost use Rattle.book_cli.specs.Report.{is_accepted, report, report_of};
+ghost use Rattle.book_cli.specs.Outcomes.{IsAcceptedRun, IsRefusedRun, IsReported, IsReportStatus, IsOfModeLine, IsSureEnd, IsUntouched, is_cut};
 
 use crate::limits::MAX_BOOK;
 use crate::report::write_report;
@@ -19,9 +19,6 @@ use std::alloc::Global;
 
 /// The words of a command, without the program's name.
 pub type Words = Seq<Text>;
-
-/// The longest book, in bytes.
-const LIMIT: usize = 1_048_576;
 
 /// Reads the book, checks its events and writes the report (docs/REPORT.md). It does all that the program does.
 ///
@@ -48,7 +45,10 @@ pub fn run<B: Source, L: Source, K: Sink, P: Sink>(
     // The whole report was written, with its refused line.
     ensures refused { result ≡ Status.Refused → IsRefusedRun (continues words.now) (B.left book.old) (K.held out.old) (K.held out.new) }
 
-    // After a fault or want of memory a front of the report was written.
+    // Where the words are a mode line and no count of faults rises, the book is accepted or refused as it is, or there was no memory.
+    ensures sure { IsModeLine words.now → (Rose (B.faults book.old) (B.faults book.new) → ⊥) → (Rose (K.faults out.old) (K.faults out.new) → ⊥) → IfSome (B.left book.old) (λ bytes. IsSureEnd (is_accepted bytes) result) }
+
+    // After a fault, or out of memory, a prefix of the report was written.
     ensures cut { IsTrue (is_cut result) → IfSome (B.left book.old) (λ bytes. GrowsByFront (K.held out.old) (K.held out.new) (report (continues words.now) bytes)) }
 
     // A fault is told only where one came.
