@@ -1,5 +1,5 @@
 -- Atoms, case by case.
-use Rattle.std.proofs.Common.{◌≡◌, ℕ, ◌<◌, ◌^◌, ℤ, pos, negsuc, Bool, true, false, cond, ◌&&◌, ◌||◌, nat_eq, nat_lt, List, [], ◌∷◌, length, get_or, drop, take, min, refl, ap, sym, subst, ◌∙◌, arith, ltb-true}
+use Rattle.std.proofs.Common.{◌≡◌, ℕ, ◌+◌, ◌<◌, ◌^◌, ℤ, pos, negsuc, Bool, true, false, cond, ◌&&◌, ◌||◌, nat_eq, nat_lt, List, [], ◌∷◌, length, get_or, drop, take, min, refl, ap, sym, subst, ◌∙◌, arith, ltb-true}
 use Rattle.std.proofs.lemmas.Bool.Decides.{nat_tests}
 use Rattle.std.proofs.lemmas.List.{take_rest, take_min}
 use Rattle.std.specs.List.{fold, list_all}
@@ -14,6 +14,7 @@ use Rattle.lisp_data.specs.declared.atom.Shape.{Shape}
 use Rattle.lisp_data.specs.declared.atom.Shape.TheVariants.{Start, Sign, Whole, Slash, Ratio, Bare, Pointed, Part, Exponent, ExponentSign, Power, NoNumber}
 use Rattle.lisp_data.proofs.NumberForms.{is_whole, is_bad, is_front, integer-shape, bad-shape, front-shape}
 use Rattle.lisp_data.specs.declared.code.Code.TheVariants.{BadByte, BadNumber, IntegerTooWide, BookTooLong}
+use Rattle.lisp_data.specs.declared.limits.TheConstants.{MAX_SYMBOL}
 
 or-nothing : (a b : Bool) → (a || b) ≡ (a || (true && b))
 or-nothing true b = refl
@@ -81,8 +82,8 @@ integer-leaf r z h p whole value narrow =
     ∙ ap (λ c. cond c (integer (signed_digits_value 10 r)) later) whole ∙ ap integer value ∙ ap (λ c. cond c (Integer z) (Wrong IntegerTooWide 0)) narrow
 
 -- the front of a text, cut at its end
-pub front-cut : (r : List ℕ) → take (min (length r) 256) r ≡ take 256 r
-front-cut r = let e : min (length r) 256 ≡ min 256 (length r) = omega arith in ap (λ n. take n r) e ∙ take_min 256 r
+pub front-cut : (r : List ℕ) → take (min (length r) (MAX_SYMBOL + 1)) r ≡ take (MAX_SYMBOL + 1) r
+front-cut r = let e : min (length r) (MAX_SYMBOL + 1) ≡ min (MAX_SYMBOL + 1) (length r) = omega arith in ap (λ n. take n r) e ∙ take_min (MAX_SYMBOL + 1) r
 
 pub ruleset atoms = (leaf-is, take_rest, front-cut)
 

@@ -16,6 +16,7 @@ use Rattle.lisp_data.proofs.AtomSteps.{leaf-is}
 use Rattle.std.specs.Cmp.Lexicographic.{bytes_decides}
 use Rattle.lisp_data.specs.SymbolText.{NamesSymbol, IsSymbolText, is_named, is_symbol_text}
 use Rattle.lisp_data.specs.declared.code.Code.TheVariants.{BadByte, BadDot, BadNumber, IntegerTooWide, SymbolTooLong}
+use Rattle.lisp_data.specs.declared.limits.TheConstants.{MAX_SYMBOL}
 
 same-byte : (b k : ℕ) → k < 65 → nat_eq (up b) k ≡ nat_eq b k
 same-byte b k h = grind (arith, nat_tests)
@@ -95,7 +96,7 @@ same-atom (b ∷ t) h =
 
 -- the place of the colon that matters
 abbrev colon_of : List ℕ → Option ℕ
-colon_of r = position (λ b. nat_eq b 58) (drop 1 (take 256 r))
+colon_of r = position (λ b. nat_eq b 58) (drop 1 (take (MAX_SYMBOL + 1) r))
 
 -- an atom of a shape, from the place of its colon
 by_shape : Option ℕ → Shape → List ℕ → Leaf
@@ -145,9 +146,9 @@ leaf-parts r = leaf-is false r ∙ on (is_odd r) (list_all (λ b. nat_eq b 46) r
 
 raised-parts : (r : List ℕ) → leaf false (map up r) ≡ parts (is_odd r) (list_all (λ b. nat_eq b 46) r) (length r) (colon_of r) (shape_of r) (map up r)
 raised-parts r =
-    let front : take 256 (map up r) ≡ map up (take 256 r) = take-map up 256 r in
+    let front : take (MAX_SYMBOL + 1) (map up r) ≡ map up (take (MAX_SYMBOL + 1) r) = take-map up (MAX_SYMBOL + 1) r in
     let colon : colon_of (map up r) ≡ colon_of r =
-    (ap (λ t. position (λ b. nat_eq b 58) (drop 1 t)) front ∙ ap (position (λ b. nat_eq b 58)) (drop-map up 1 (take 256 r)) ∙ same-colon (drop 1 (take 256 r))) in
+    (ap (λ t. position (λ b. nat_eq b 58) (drop 1 t)) front ∙ ap (position (λ b. nat_eq b 58)) (drop-map up 1 (take (MAX_SYMBOL + 1) r)) ∙ same-colon (drop 1 (take (MAX_SYMBOL + 1) r))) in
     leaf-parts (map up r) ∙ λ i. parts (same-odd r i) (same-points r i) (length-map r up i) (colon i) (same-shape Start r i) (map up r)
 
 integer-apart : (z : ℤ) (s : List ℕ) → integer z ≡ Named s → ⊥
@@ -159,11 +160,11 @@ integer-apart z s h = on (is_narrow z) h
 
 word-named : (o : Option ℕ) (r s q : List ℕ) → length q ≡ length r → word_by false r o ≡ Named s → (s ≡ map up r) × (word_by false q o ≡ Named (map up q))
 word-named (Some i) r s q n h = cc
-word-named None r s q n h = on (nat_lt 255 (length r)) refl h
+word-named None r s q n h = on (nat_lt MAX_SYMBOL (length r)) refl h
   where
-    on : (c : Bool) → nat_lt 255 (length r) ≡ c → cond c (Wrong SymbolTooLong 255) (Named (map up r)) ≡ Named s → (s ≡ map up r) × (word_by false q None ≡ Named (map up q))
+    on : (c : Bool) → nat_lt MAX_SYMBOL (length r) ≡ c → cond c (Wrong SymbolTooLong MAX_SYMBOL) (Named (map up r)) ≡ Named s → (s ≡ map up r) × (word_by false q None ≡ Named (map up q))
     on true e k = cc
-    on false e k = (cc, ap (λ m. cond (nat_lt 255 m) (Wrong SymbolTooLong 255) (Named (map up q))) n ∙ ap (λ c. cond c (Wrong SymbolTooLong 255) (Named (map up q))) e)
+    on false e k = (cc, ap (λ m. cond (nat_lt MAX_SYMBOL m) (Wrong SymbolTooLong MAX_SYMBOL) (Named (map up q))) n ∙ ap (λ c. cond c (Wrong SymbolTooLong MAX_SYMBOL) (Named (map up q))) e)
 
 shaped-named : (o : Option ℕ) (shape : Shape) (r s q : List ℕ) → length q ≡ length r → by_shape o shape r ≡ Named s → (s ≡ map up r) × (by_shape o shape q ≡ Named (map up q))
 unfolding by_shape

@@ -5,6 +5,7 @@ use Rattle.std.specs.Char.{to_ascii_uppercase}
 use Rattle.std.specs.Str.Parse.{signed_digits_value}
 unfoldable pub use Rattle.lisp_data.specs.Numbers.{is_sign, is_exponent}
 use Rattle.lisp_data.specs.Numbers.{is_integer, is_bad_number, begins_number}
+use Rattle.lisp_data.specs.declared.limits.TheConstants.{MAX_SYMBOL}
 use Rattle.lisp_data.specs.declared.code.Code.{Code}
 use Rattle.lisp_data.specs.declared.code.Code.TheVariants.{BadByte, BadDot, BadNumber, IntegerTooWide, BookTooLong, SymbolTooLong}
 
@@ -31,15 +32,15 @@ is_narrow (negsuc n) = nat_lt n (2 ^ 127)
 abbrev pub integer : ℤ → Leaf
 integer z = if is_narrow z then Integer z else Wrong IntegerTooWide 0
 
--- What an atom is that is no number and can't become one, by the place of a colon past its first byte among its first 256, counted from the
--- second: its 256th byte is a fault, unless a colon stands there or before it. `cut`: the atom reaches the end of the bytes, and the book goes
+-- What an atom is that is no number and can't become one, by the place of a colon past its first byte, counted from the second: the first byte
+-- past the longest symbol is a fault, unless a colon stands there or before it. `cut`: the atom reaches the end of the bytes, and the book goes
 -- on past them.
 abbrev pub word_by : Bool → List ℕ → Option ℕ → Leaf
 word_by cut r (Some i) = Wrong BadByte (i + 1)
-word_by cut r None = if nat_lt 255 (length r) then Wrong SymbolTooLong 255 else if cut then Wrong BookTooLong (length r) else Named (map to_ascii_uppercase r)
+word_by cut r None = if nat_lt MAX_SYMBOL (length r) then Wrong SymbolTooLong MAX_SYMBOL else if cut then Wrong BookTooLong (length r) else Named (map to_ascii_uppercase r)
 
 abbrev pub word : Bool → List ℕ → Leaf
-word cut r = word_by cut r (position (λ b. nat_eq b 58) (drop 1 (take 256 r)))
+word cut r = word_by cut r (position (λ b. nat_eq b 58) (drop 1 (take (MAX_SYMBOL + 1) r)))
 
 -- begins with a number sign, or is the colon alone
 abbrev pub is_odd : List ℕ → Bool

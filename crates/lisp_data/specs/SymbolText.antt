@@ -10,7 +10,7 @@ pub record NamesSymbol (text s : List ℕ) : Type 0 where
   pub atom : list_all in_atom text ≡ true
   pub symbol : leaf false text ≡ Named s
 
--- the text of a symbol names that symbol: so it has at most 255 bytes, and no small letter
+-- the text of a symbol names that symbol: so it is no longer than MAX_SYMBOL, and has no small letter
 abbrev pub IsSymbolText : List ℕ → Type 0
 IsSymbolText s = NamesSymbol s s
 

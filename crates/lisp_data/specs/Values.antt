@@ -4,6 +4,7 @@ use Rattle.std.specs.Ordering.{int_eq}
 use Rattle.std.proofs.Common.{sym, ap, ◌∙◌}
 use base.Stored.{Gv, gnil, gnum, gcons, num, Coded}
 use Rattle.lisp_data.specs.view.Codes.{code_nats, nats_of, nats_of-code}
+use Rattle.lisp_data.specs.declared.limits.TheConstants.{MAX_PATH, MAX_PAIRS}
 
 -- the text of a symbol, as a list of bytes
 abbrev pub Name : Type 0
@@ -48,8 +49,8 @@ cdr_of (Sym s) = None
 
 -- it keeps the limits of a value
 pub record IsSmall (v : Val) : Type 0 where
-  pub path_fits : path v ≤ 4096
-  pub pairs_fit : pairs v ≤ 1000000
+  pub path_fits : path v ≤ MAX_PATH
+  pub pairs_fit : pairs v ≤ MAX_PAIRS
 
 -- the code by which a proof tells values apart
 abbrev pub code_val : Val → Gv

@@ -7,8 +7,10 @@ ghost use Rattle.std.specs.Str.Parse.{signed_digits_value};
 ghost use Rattle.lisp_data.specs.Atoms as spec;
 ghost use Rattle.lisp_data.specs.view.AtomView.{leaf_of, IsNear};
 ghost use Rattle.lisp_data.specs.view.Automaton as view;
+ghost use Rattle.lisp_data.specs.declared.limits.TheConstants.{MAX_SYMBOL};
 
 use crate::code::Code;
+use crate::limits::MAX_SYMBOL;
 
 /// What an atom is.
 #[derive(Clone, Copy, Debug, PartialEq, Eq)]
@@ -144,14 +146,14 @@ fn colon(bytes: &[u8]) -> Option<usize>
     bytes.iter().position(|b| *b == b':')
 }
 
-/// The place of the first colon past the first byte, counted from the second, among the 256 first bytes.
+/// The place of the first colon past the first byte, counted from the second, among the bytes up to the first that no symbol has room for.
 #[tactic(auto, using(crate::proofs::AtomSteps::atoms))]
 fn late_colon(atom: &[u8]) -> Option<usize>
     requires { 0 < length atom.now }
-    ensures place { result ≡ position (λ b. nat_eq b 58) (drop 1 (take 256 atom.now)) }
+    ensures place { result ≡ position (λ b. nat_eq b 58) (drop 1 (take (MAX_SYMBOL + 1) atom.now)) }
     ensures within { IfSome result (λ place. place + 1 < length atom.now) }
 {
-    let len = atom.len().min(256);
+    let len = atom.len().min(MAX_SYMBOL + 1);
     colon(&atom[..len][1..])
 }
 
@@ -176,7 +178,7 @@ fn word(text: &str, cut: bool) -> Atom
 {
     match late_colon(text.as_bytes()) {
         Some(place) => Atom::Wrong(Code::BadByte, place + 1),
-        None if text.len() > 255 => Atom::Wrong(Code::SymbolTooLong, 255),
+        None if text.len() > MAX_SYMBOL => Atom::Wrong(Code::SymbolTooLong, MAX_SYMBOL),
         None if cut => Atom::Wrong(Code::BookTooLong, text.len()),
         None => Atom::Symbol,
     }

@@ -22,7 +22,7 @@ pub enum Code {
     TooDeep,
     /// More bytes or more forms than a book may have.
     BookTooLong,
-    /// A symbol of more than 255 bytes.
+    /// A symbol of more bytes than `MAX_SYMBOL`.
     SymbolTooLong,
     /// The book ends inside a string or a block comment, outside any list and with no `'` before it.
     UnclosedText,

@@ -6,6 +6,7 @@ mod code;
 mod detail;
 mod form;
 mod laws;
+mod limits;
 mod symbol;
 #[cfg(test)]
 mod tests;
@@ -16,9 +17,10 @@ pub use code::Code;
 pub use detail::Detail;
 pub use form::{Form, Forms};
 pub use laws::numbers_begin;
+pub use limits::{MAX_PAIRS, MAX_PATH, MAX_SYMBOL};
 pub use lists::{Bytes, Memory, Seq, Share, Text};
 pub use symbol::{Symbol, SymbolError};
-pub use value::{MAX_PAIRS, MAX_PATH, PairNode, Value, ValueError};
+pub use value::{PairNode, Value, ValueError};
 
 /// A list of symbols.
 pub type Symbols = Seq<Symbol>;

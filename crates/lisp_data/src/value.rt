@@ -4,7 +4,9 @@ ghost use Rattle.std.specs.Prelude.{◌≡◌, ◌↔◌, ◌≤◌, IsTrue, IfO
 ghost use Rattle.std.specs.Option.{option_map, option_copied};
 ghost use Rattle.lisp_data.specs.Values.{Val, path, pairs, car_of, cdr_of, same_val, IsSmall};
 ghost use Rattle.lisp_data.specs.view.ValueView.{val_of, SaysPair};
+ghost use Rattle.lisp_data.specs.declared.limits.TheConstants.{MAX_PATH, MAX_PAIRS};
 
+use crate::limits::{MAX_PAIRS, MAX_PATH};
 use crate::symbol::Symbol;
 use lists::Memory;
 use std::alloc::Global;
@@ -54,18 +56,12 @@ impl Model for PairNode {
 /// Why a value can't be made.
 #[derive(Clone, Copy, Debug, PartialEq, Eq)]
 pub enum ValueError {
-    /// It would pass a path of 4,096 or 1,000,000 pairs.
+    /// It would pass the limits of a value, `MAX_PATH` or `MAX_PAIRS`.
     TooLarge,
     /// A text is in the form.
     NotAValue,
     Memory,
 }
-
-/// The longest path of a value.
-pub const MAX_PATH: u32 = 4096;
-
-/// The most pairs of a value.
-pub const MAX_PAIRS: u32 = 1_000_000;
 
 impl PairNode {
     pub fn car(&self) -> &Value
@@ -138,7 +134,7 @@ impl Value {
     /// The longest way down to an atom: 0 for an atom.
     pub fn path(&self) -> u32
         ensures value { result ≡ path (val_of self.now) }
-        ensures bound { path (val_of self.now) ≤ 4096 }
+        ensures bound { path (val_of self.now) ≤ MAX_PATH }
     {
         match self {
             Value::Pair(pair) => {
@@ -152,7 +148,7 @@ impl Value {
     /// How many pairs the whole tree has.
     pub fn pairs(&self) -> u32
         ensures value { result ≡ pairs (val_of self.now) }
-        ensures bound { pairs (val_of self.now) ≤ 1000000 }
+        ensures bound { pairs (val_of self.now) ≤ MAX_PAIRS }
     {
         match self {
             Value::Pair(pair) => {
