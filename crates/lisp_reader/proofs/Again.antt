@@ -25,6 +25,7 @@ use Rattle.lisp_reader.proofs.Steps.{shift-zero, list_in, mark_in, form-one, for
 use Rattle.lisp_reader.proofs.Items.{items-close, items-points, items-item}
 use Rattle.lisp_reader.proofs.Book.{book-got}
 use Rattle.lisp_data.specs.declared.code.Code.TheVariants.{BadByte, BadDot, BookTooLong}
+use Rattle.lisp_reader.specs.declared.limits.TheConstants.{MAX_BOOK, MAX_FORMS, MAX_NESTING}
 
 -- a text with which no atom goes on
 abbrev Ends : List ℕ → Type 0
@@ -445,29 +446,29 @@ book-end : (left place : ℕ) (t : List ℕ) → t ≡ [] → book false left pl
 unfolding book
 book-end left place t e = ap (book false left place 0) e
 
-whole-book : (t : List ℕ) (d : Datum) → IsRead t d 200 → parse false t ≡ ((d, 0) ∷ [], None)
+whole-book : (t : List ℕ) (d : Datum) → IsRead t d MAX_NESTING → parse false t ≡ ((d, 0) ∷ [], None)
 whole-book t d w =
     let n = length t - 1 in
     let same : t ++ [] ≡ t = append-nil t in
     let none : gaps t ≡ 0 = gaps-none t (ap (λ x. is_gap (front x)) (sym same) ∙ w.gapless [] tt) in
-    let read : form false false 200 t ≡ Got d n = ap (form false false 200) (sym same) ∙ w.read [] tt false 200 (omega arith) in
+    let read : form false false MAX_NESTING t ≡ Got d n = ap (form false false MAX_NESTING) (sym same) ∙ w.read [] tt false MAX_NESTING (omega arith) in
     let some : nat_eq (length (behind t)) 0 ≡ false =
     (let long : 0 < length (behind t) = omega (arith, ap (λ k. length (drop k t)) none, w.long) in grind (arith, nat_tests)) in
     let all : n + 1 ≡ length t = omega (arith, w.long) in
-    let next : next_form false (nat_eq 10000 0) t ≡ Got d n = ap (λ c. cond c (Bad BookTooLong (gaps t)) (form false false 200 t)) (and-false (begins_form false (behind t))) ∙ read in
-    book-got false 10000 0 t d n some next (omega (arith, w.long))
-    ∙ ap (λ k. before false (d, 0 + k) (book false (10000 - 1) (0 + (n + 1)) 0 (drop (n + 1) t))) none
-    ∙ ap (before false (d, 0)) (book-end (10000 - 1) (0 + (n + 1)) (drop (n + 1) t) (drop_all (n + 1) t (omega arith)))
+    let next : next_form false (nat_eq MAX_FORMS 0) t ≡ Got d n = ap (λ c. cond c (Bad BookTooLong (gaps t)) (form false false MAX_NESTING t)) (and-false (begins_form false (behind t))) ∙ read in
+    book-got false MAX_FORMS 0 t d n some next (omega (arith, w.long))
+    ∙ ap (λ k. before false (d, 0 + k) (book false (MAX_FORMS - 1) (0 + (n + 1)) 0 (drop (n + 1) t))) none
+    ∙ ap (before false (d, 0)) (book-end (MAX_FORMS - 1) (0 + (n + 1)) (drop (n + 1) t) (drop_all (n + 1) t (omega arith)))
 
 -- each text of a form is read as that form
 pub texts-read : TextsAreRead
 texts-read d t w h =
-    let short : nat_lt 1048576 (length t) ≡ false = grind (arith, nat_tests) in
-    ap (λ c. cond c (parse true (take 1048576 t)) (parse false t)) short ∙ whole-book t d (text-read w)
+    let short : nat_lt MAX_BOOK (length t) ≡ false = grind (arith, nat_tests) in
+    ap (λ c. cond c (parse true (take MAX_BOOK t)) (parse false t)) short ∙ whole-book t d (text-read w)
 
 -- so is what is printed of it
 pub forms-again : (d : Datum) → IsPrintable d → IsReadAgain d
-forms-again d p = record { read = λ h l. texts-read d (form_text d) (printed-text d 200 p h) l }
+forms-again d p = record { read = λ h l. texts-read d (form_text d) (printed-text d MAX_NESTING p h) l }
 
 no-text : (v : Val) → has_text (datum_of v) ≡ false
 no-text (v.Int z) = refl

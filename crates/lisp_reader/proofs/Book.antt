@@ -16,6 +16,7 @@ use Rattle.lisp_reader.proofs.Steps.{behind-at, form-behind}
 use Rattle.lisp_reader.proofs.Items.{unshift}
 use Rattle.lisp_data.specs.declared.code.Code.{Code}
 use Rattle.lisp_data.specs.declared.code.Code.TheVariants.{BookTooLong}
+use Rattle.lisp_reader.specs.declared.limits.TheConstants.{MAX_NESTING}
 
 module _ (more : Bool) where
   book-skip : (left place skip : ℕ) (t : List ℕ) → skip ≤ length t → book more left place skip t ≡ book more left (place + skip) 0 (drop skip t)
@@ -66,7 +67,7 @@ module _ (more : Bool) where
 
   module _ (left : ℕ) (xs : List ℕ) (at place : ℕ) (token : Token) (p : place ≡ at + gaps (drop at xs)) (e : seen token ≡ front (drop place xs)) where
     abbrev read_here : Read
-    read_here = shift place (form more (nat_lt 0 0) (200 - 0) (drop place xs))
+    read_here = shift place (form more (nat_lt 0 0) (MAX_NESTING - 0) (drop place xs))
 
     abbrev left_here : Answers
     left_here = book more left at 0 (drop at xs)
@@ -90,15 +91,15 @@ module _ (more : Bool) where
     step-full z lt b =
         let t = drop at xs in
         let over : (begins_form more (behind t) && nat_eq left 0) ≡ true = ap (λ c. c && nat_eq left 0) (begins_here ∙ b) ∙ ap (λ n. nat_eq n 0) z in
-        book-bad left at t BookTooLong (gaps t) (full lt) (ap (λ c. cond c (Bad BookTooLong (gaps t)) (form more false 200 t)) over) ∙ ap (λ k. ([], Some (BookTooLong, k))) (sym p)
+        book-bad left at t BookTooLong (gaps t) (full lt) (ap (λ c. cond c (Bad BookTooLong (gaps t)) (form more false MAX_NESTING t)) over) ∙ ap (λ k. ([], Some (BookTooLong, k))) (sym p)
 
-    free_form : (begins_form more (drop place xs) && nat_eq left 0) ≡ false → next_form more (nat_eq left 0) (drop at xs) ≡ form more false 200 (drop at xs)
+    free_form : (begins_form more (drop place xs) && nat_eq left 0) ≡ false → next_form more (nat_eq left 0) (drop at xs) ≡ form more false MAX_NESTING (drop at xs)
     free_form h =
         let t = drop at xs in
-        ap (λ c. cond (c && nat_eq left 0) (Bad BookTooLong (gaps t)) (form more false 200 t)) begins_here ∙ ap (λ c. cond c (Bad BookTooLong (gaps t)) (form more false 200 t)) h
+        ap (λ c. cond (c && nat_eq left 0) (Bad BookTooLong (gaps t)) (form more false MAX_NESTING t)) begins_here ∙ ap (λ c. cond c (Bad BookTooLong (gaps t)) (form more false MAX_NESTING t)) h
 
-    read_behind : shift at (form more false 200 (drop at xs)) ≡ read_here
-    read_behind = form-behind more false 200 xs at place token p e
+    read_behind : shift at (form more false MAX_NESTING (drop at xs)) ≡ read_here
+    read_behind = form-behind more false MAX_NESTING xs at place token p e
 
     pub step-got : (last : ℕ) (x : Datum) → place < length xs → (begins_form more (drop place xs) && nat_eq left 0) ≡ false → read_here ≡ Got x last → place ≤ last → last < length xs →
         left_here ≡ before more (x, place) (book more (left - 1) (last + 1) 0 (drop (last + 1) xs))
@@ -113,9 +114,9 @@ module _ (more : Bool) where
         ∙ ap (λ k. before more (x, k) (book more (left - 1) (last + 1) 0 (drop (last + 1) xs))) (sym p)
 
     pub step-bad : (c : Code) (k : ℕ) → place < length xs → (begins_form more (drop place xs) && nat_eq left 0) ≡ false → read_here ≡ Bad c k → left_here ≡ ([], Some (c, k))
-    step-bad c k lt b h = on (form more false 200 (drop at xs)) refl (read_behind ∙ h)
+    step-bad c k lt b h = on (form more false MAX_NESTING (drop at xs)) refl (read_behind ∙ h)
       where
-        on : (r : Read) → form more false 200 (drop at xs) ≡ r → shift at r ≡ Bad c k → left_here ≡ ([], Some (c, k))
+        on : (r : Read) → form more false MAX_NESTING (drop at xs) ≡ r → shift at r ≡ Bad c k → left_here ≡ ([], Some (c, k))
         on (Got f n) q h = cc
         on (Bad d n) q h =
             let one : d ≡ c = cc in

@@ -7,6 +7,7 @@ use Rattle.lisp_reader.specs.Spans.{is_blank, opens_block, Front, Nothing, Gap, 
 use Rattle.lisp_reader.specs.Grammar.{Read, Got, Bad, shift, one_by, items, quote_form, mapped, form, begins_form, next_form, book_and, before, book, parse}
 use Rattle.lisp_data.specs.declared.code.Code.{Code}
 use Rattle.lisp_data.specs.declared.code.Code.TheVariants.{TooDeep, BookTooLong}
+use Rattle.lisp_reader.specs.declared.limits.TheConstants.{MAX_FORMS, MAX_NESTING}
 
 abbrev Books : Type 0
 Books = List (Datum × ℕ) × Option (Code × ℕ)
@@ -70,10 +71,10 @@ module _ (more : Bool) where
   unfolding begins_form
   none_bad text = by_front (begins (front (behind text))) (more && is_sharp (behind text)) refl refl
     where
-      by_front : (b c : Bool) → begins (front (behind text)) ≡ b → (more && is_sharp (behind text)) ≡ c → IsBad (if (b && not c) && true then Bad BookTooLong (gaps text) else form more false 200 text)
-      by_front true true e h = sharp_bad false 200 text h
+      by_front : (b c : Bool) → begins (front (behind text)) ≡ b → (more && is_sharp (behind text)) ≡ c → IsBad (if (b && not c) && true then Bad BookTooLong (gaps text) else form more false MAX_NESTING text)
+      by_front true true e h = sharp_bad false MAX_NESTING text h
       by_front true false e h = tt
-      by_front false c e h = form_bad false 200 text e
+      by_front false c e h = form_bad false MAX_NESTING text e
 
   few_after : (left place : ℕ) (r : Read) (rest : Datum → ℕ → Books) → (nat_eq left 0 ≡ true → IsBad r) → ((f : Datum) (n : ℕ) → length (rest f n).0 ≤ suc (left - 1)) → length (book_and more r place rest).0 ≤ left
   few_after left place (Bad c n) rest none h = omega arith
@@ -94,8 +95,8 @@ module _ (more : Bool) where
       by_end true x y h = omega arith
       by_end false x y h = h
 
-pub few : (more : Bool) (text : List ℕ) → length (parse more text).0 ≤ 10000
-few more text = few_forms more 10000 0 0 text
+pub few : (more : Bool) (text : List ℕ) → length (parse more text).0 ≤ MAX_FORMS
+few more text = few_forms more MAX_FORMS 0 0 text
 
 abbrev IsThere : Option (Code × ℕ) → Type 0
 IsThere None = ⊥
@@ -120,4 +121,4 @@ module _ where
       after (Bad c n) h = tt
 
 pub goes_on : (text : List ℕ) → (parse true text).1 ≡ None → ⊥
-goes_on text e = subst IsThere e (book_goes_on 10000 0 0 text)
+goes_on text e = subst IsThere e (book_goes_on MAX_FORMS 0 0 text)

@@ -18,6 +18,7 @@ use Rattle.lisp_reader.proofs.Steps.{shift-shift, shift-zero, shift-mapped, bad-
 use Rattle.lisp_reader.proofs.Lists.{close-mapped, closed-mapped, closed-bad}
 use Rattle.lisp_data.specs.declared.code.Code.{Code}
 use Rattle.lisp_data.specs.declared.code.Code.TheVariants.{UnclosedList, BadDot}
+use Rattle.lisp_reader.specs.declared.limits.TheConstants.{MAX_NESTING}
 
 module _ (more : Bool) where
   items-skip : (f : List ℕ → Read) (some : Bool) (skip : ℕ) (t : List ℕ) → items more f some skip t ≡ shift skip (items more f some 0 (drop skip t))
@@ -90,9 +91,9 @@ mapped-nil (Bad c n) = refl
 module _ (more : Bool) (xs : List ℕ) where
   -- so many lists are joined: what is read where the innermost has these items before the place `at`
   abbrev pub list_at : ℕ → ℕ → Bool → List Datum → ℕ → Read
-  list_at j depth some fs at = closed more xs j (mapped (chain fs) (shift at (items more (form more true (200 - depth)) some 0 (drop at xs))))
+  list_at j depth some fs at = closed more xs j (mapped (chain fs) (shift at (items more (form more true (MAX_NESTING - depth)) some 0 (drop at xs))))
 
-  pub list-start : (depth at : ℕ) → list_at 0 depth false [] at ≡ shift at (items more (form more true (200 - depth)) false 0 (drop at xs))
+  pub list-start : (depth at : ℕ) → list_at 0 depth false [] at ≡ shift at (items more (form more true (MAX_NESTING - depth)) false 0 (drop at xs))
   list-start depth at = mapped-nil _
 
   kind-at : (some : Bool) (i place : ℕ) (token : Token) → place ≡ i + gaps (drop i xs) → seen token ≡ front (drop place xs) →
@@ -105,12 +106,12 @@ module _ (more : Bool) (xs : List ℕ) where
     here = kind_of more some (drop place xs) (seen token)
 
     abbrev read_here : Read
-    read_here = shift place (form more (nat_lt 0 depth) (200 - depth) (drop place xs))
+    read_here = shift place (form more (nat_lt 0 depth) (MAX_NESTING - depth) (drop place xs))
 
-    behind_gaps : 0 < depth → shift i (form more true (200 - depth) (drop i xs)) ≡ read_here
+    behind_gaps : 0 < depth → shift i (form more true (MAX_NESTING - depth) (drop i xs)) ≡ read_here
     behind_gaps d =
         let inside : true ≡ nat_lt 0 depth = grind (arith, nat_tests) in
-        form-behind more true (200 - depth) xs i place token p e ∙ ap (λ b. shift place (form more b (200 - depth) (drop place xs))) inside
+        form-behind more true (MAX_NESTING - depth) xs i place token p e ∙ ap (λ b. shift place (form more b (MAX_NESTING - depth) (drop place xs))) inside
 
     pub list-item : (last : ℕ) (f : Datum) → 0 < depth → here ≡ Item → read_here ≡ Got f last → place ≤ last → last < length xs →
         list_at j depth some fs i ≡ list_at j depth true (fs ++ f ∷ []) (last + 1)
@@ -119,36 +120,36 @@ module _ (more : Bool) (xs : List ℕ) where
         let n = last - i in
         let room : n < length t = omega (arith, length-drop i xs) in
         let far : i + (n + 1) ≡ last + 1 = omega arith in
-        let rest : List ℕ → Read = items more (form more true (200 - depth)) true 0 in
+        let rest : List ℕ → Read = items more (form more true (MAX_NESTING - depth)) true 0 in
         let read = unshift _ i last f (behind_gaps d ∙ r) in
-        ap (λ r. closed more xs j (mapped (chain fs) (shift i r))) (items-item more (form more true (200 - depth)) some t f n (kind-at some i place token p e ∙ k) read room)
+        ap (λ r. closed more xs j (mapped (chain fs) (shift i r))) (items-item more (form more true (MAX_NESTING - depth)) some t f n (kind-at some i place token p e ∙ k) read room)
         ∙ ap (closed more xs j) (regroup fs f i (n + 1) _)
         ∙ ap (λ t. closed more xs j (mapped (chain (fs ++ f ∷ [])) (shift (i + (n + 1)) (rest t)))) (drop-drop (n + 1) i xs)
         ∙ ap (λ k. closed more xs j (mapped (chain (fs ++ f ∷ [])) (shift k (rest (drop k xs))))) far
 
     pub list-fault : (c : Code) (n : ℕ) → 0 < depth → here ≡ Item → read_here ≡ Bad c n → list_at j depth some fs i ≡ Bad c n
-    list-fault c n d k r = on (form more true (200 - depth) (drop i xs)) refl (behind_gaps d ∙ r)
+    list-fault c n d k r = on (form more true (MAX_NESTING - depth) (drop i xs)) refl (behind_gaps d ∙ r)
       where
-        on : (r : Read) → form more true (200 - depth) (drop i xs) ≡ r → shift i r ≡ Bad c n → list_at j depth some fs i ≡ Bad c n
+        on : (r : Read) → form more true (MAX_NESTING - depth) (drop i xs) ≡ r → shift i r ≡ Bad c n → list_at j depth some fs i ≡ Bad c n
         on (Got f m) q h = cc
         on (Bad b m) q h =
             ap (λ r. closed more xs j (mapped (chain fs) (shift i r)))
-            (items-bad more (form more true (200 - depth)) some (drop i xs) b m (kind-at some i place token p e ∙ k) (form-nil more true (200 - depth)) q)
+            (items-bad more (form more true (MAX_NESTING - depth)) some (drop i xs) b m (kind-at some i place token p e ∙ k) (form-nil more true (MAX_NESTING - depth)) q)
             ∙ ap (closed more xs j) h ∙ closed-bad more xs j c n
 
     -- the list closes, and those around it
     pub list-close : here ≡ Closes → list_at j depth some fs i ≡ mapped (λ d. chain fs nil_form) (closed more xs j (Got nil_form place))
     list-close k =
-        ap (λ r. closed more xs j (mapped (chain fs) (shift i r))) (items-close more (form more true (200 - depth)) some (drop i xs) (kind-at some i place token p e ∙ k))
+        ap (λ r. closed more xs j (mapped (chain fs) (shift i r))) (items-close more (form more true (MAX_NESTING - depth)) some (drop i xs) (kind-at some i place token p e ∙ k))
         ∙ ap (λ n. closed more xs j (Got (chain fs nil_form) n)) (sym p)
         ∙ closed-mapped more xs j (λ d. chain fs nil_form) (Got nil_form place)
 
     -- a point
-    pub list-point : here ≡ Points → list_at j depth some fs i ≡ closed more xs j (mapped (chain fs) (shift (place + 1) (last more (form more true (200 - depth)) (drop (place + 1) xs))))
+    pub list-point : here ≡ Points → list_at j depth some fs i ≡ closed more xs j (mapped (chain fs) (shift (place + 1) (last more (form more true (MAX_NESTING - depth)) (drop (place + 1) xs))))
     list-point k =
-        let rest : List ℕ → Read = last more (form more true (200 - depth)) in
+        let rest : List ℕ → Read = last more (form more true (MAX_NESTING - depth)) in
         let far : i + (gaps (drop i xs) + 1) ≡ place + 1 = omega arith in
-        ap (λ r. closed more xs j (mapped (chain fs) (shift i r))) (items-points more (form more true (200 - depth)) some (drop i xs) (kind-at some i place token p e ∙ k))
+        ap (λ r. closed more xs j (mapped (chain fs) (shift i r))) (items-points more (form more true (MAX_NESTING - depth)) some (drop i xs) (kind-at some i place token p e ∙ k))
         ∙ ap (λ r. closed more xs j (mapped (chain fs) r)) (shift-shift i (gaps (drop i xs) + 1) _)
         ∙ ap (λ t. closed more xs j (mapped (chain fs) (shift (i + (gaps (drop i xs) + 1)) (rest t)))) (drop-drop (gaps (drop i xs) + 1) i xs)
         ∙ ap (λ k. closed more xs j (mapped (chain fs) (shift k (rest (drop k xs))))) far
@@ -168,7 +169,7 @@ module _ (more : Bool) (xs : List ℕ) where
 
   module _ (depth i place : ℕ) (token : Token) (p : place ≡ i + gaps (drop i xs)) (e : seen token ≡ front (drop place xs)) where
     abbrev last_at : ℕ → Read
-    last_at at = shift at (last more (form more true (200 - depth)) (drop at xs))
+    last_at at = shift at (last more (form more true (MAX_NESTING - depth)) (drop at xs))
 
     not_close : (token ≡ tokens.Close → ⊥) → kind_of more false (drop place xs) (seen token) ≡ Closes → ⊥
     not_close n = on token n
@@ -184,14 +185,14 @@ module _ (more : Bool) (xs : List ℕ) where
         on (tokens.Atom m) n h = cc
         on tokens.Stray n h = cc
 
-    pub last-other : (token ≡ tokens.Close → ⊥) → last_at i ≡ close more xs (shift place (form more true (200 - depth) (drop place xs)))
+    pub last-other : (token ≡ tokens.Close → ⊥) → last_at i ≡ close more xs (shift place (form more true (MAX_NESTING - depth) (drop place xs)))
     last-other n =
-        last-form (200 - depth) i _ (kind-at false i place token p e) (not_close n) ∙ ap (close more xs) (form-behind more true (200 - depth) xs i place token p e)
+        last-form (MAX_NESTING - depth) i _ (kind-at false i place token p e) (not_close n) ∙ ap (close more xs) (form-behind more true (MAX_NESTING - depth) xs i place token p e)
 
     pub last-close : token ≡ tokens.Close → last_at i ≡ Bad BadDot place
     last-close c =
         let closes : kind more false (drop i xs) ≡ Closes = kind-at false i place token p e ∙ ap (λ t. kind_of more false (drop place xs) (seen t)) c in
-        ap (λ k. shift i (last_by more (form more true (200 - depth)) (drop i xs) k)) closes ∙ ap (Bad BadDot) (sym p)
+        ap (λ k. shift i (last_by more (form more true (MAX_NESTING - depth)) (drop i xs) k)) closes ∙ ap (Bad BadDot) (sym p)
 
   closes_or : (t : Token) → (t ≡ tokens.Close) ⊎ (t ≡ tokens.Close → ⊥)
   closes_or tokens.Nothing = inr (λ h. cc)
@@ -207,13 +208,13 @@ module _ (more : Bool) (xs : List ℕ) where
   module _ (j depth : ℕ) (fs : List Datum) (place : ℕ) (token : Token) (e : seen token ≡ front (drop place xs)) where
     -- what is read behind a point, from the token on
     abbrev pub tail_at : Read
-    tail_at = closed more xs j (mapped (chain fs) (shift place (last more (form more true (200 - depth)) (drop place xs))))
+    tail_at = closed more xs j (mapped (chain fs) (shift place (last more (form more true (MAX_NESTING - depth)) (drop place xs))))
 
     abbrev pub read_in : Read
-    read_in = shift place (form more (nat_lt 0 depth) (200 - depth) (drop place xs))
+    read_in = shift place (form more (nat_lt 0 depth) (MAX_NESTING - depth) (drop place xs))
 
-    inside_read : 0 < depth → shift place (form more true (200 - depth) (drop place xs)) ≡ read_in
-    inside_read d = let inside : true ≡ nat_lt 0 depth = grind (arith, nat_tests) in ap (λ b. shift place (form more b (200 - depth) (drop place xs))) inside
+    inside_read : 0 < depth → shift place (form more true (MAX_NESTING - depth) (drop place xs)) ≡ read_in
+    inside_read d = let inside : true ≡ nat_lt 0 depth = grind (arith, nat_tests) in ap (λ b. shift place (form more b (MAX_NESTING - depth) (drop place xs))) inside
 
     no_gaps : place ≡ place + gaps (drop place xs)
     no_gaps = let z = token-gaps token (drop place xs) e in omega arith
@@ -237,7 +238,7 @@ module _ (more : Bool) (xs : List ℕ) where
     tail-fault c n o d r = tail-other o d ∙ ap (λ r. closed more xs (suc j) (mapped (chain fs) r)) r ∙ closed-bad more xs j c n
 
     -- a list behind the point: its items go on
-    pub tail-join : token ≡ tokens.Open → 0 < depth → depth < 200 → tail_at ≡ list_at (j + 1) (depth + 1) false fs (place + 1)
+    pub tail-join : token ≡ tokens.Open → 0 < depth → depth < MAX_NESTING → tail_at ≡ list_at (j + 1) (depth + 1) false fs (place + 1)
     tail-join o d l =
         let next : suc j ≡ j + 1 = omega arith in
         tail-other (λ c. let apart : tokens.Open ≡ tokens.Close = sym o ∙ c in cc) d
@@ -246,11 +247,11 @@ module _ (more : Bool) (xs : List ℕ) where
 
     -- the gaps before the token
     pub tail-behind : (i : ℕ) → place ≡ i + gaps (drop i xs) →
-        closed more xs j (mapped (chain fs) (shift i (last more (form more true (200 - depth)) (drop i xs)))) ≡ tail_at
+        closed more xs j (mapped (chain fs) (shift i (last more (form more true (MAX_NESTING - depth)) (drop i xs)))) ≡ tail_at
     tail-behind i p = ap (λ r. closed more xs j (mapped (chain fs) r)) (on (closes_or token))
       where
         on : (token ≡ tokens.Close) ⊎ (token ≡ tokens.Close → ⊥) →
-            shift i (last more (form more true (200 - depth)) (drop i xs)) ≡ shift place (last more (form more true (200 - depth)) (drop place xs))
+            shift i (last more (form more true (MAX_NESTING - depth)) (drop i xs)) ≡ shift place (last more (form more true (MAX_NESTING - depth)) (drop place xs))
         on (inl c) = last-close depth i place token p e c ∙ sym (last-close depth place place token no_gaps e c)
         on (inr n) = last-other depth i place token p e n ∙ sym (last-other depth place place token no_gaps e n)
 

@@ -19,6 +19,7 @@ use Rattle.lisp_reader.proofs.Ends.{IsBad, none_bad, goes_on}
 use Rattle.std.proofs.lemmas.Bool.Decides.{nat_tests}
 use Rattle.lisp_reader.proofs.Steps.{list_in, mark_in, form-one, form-nil}
 use Rattle.lisp_reader.proofs.Items.{items-close, items-points, items-next}
+use Rattle.lisp_reader.specs.declared.limits.TheConstants.{MAX_BOOK, MAX_FORMS, MAX_NESTING}
 
 -- What is read stands in the relation.
 
@@ -357,11 +358,11 @@ and-false true = refl
 and-false false = refl
 
 -- a form may come
-free-form : (left : ℕ) (t : List ℕ) → next_form false (nat_eq (suc left) 0) t ≡ form false false 200 t
+free-form : (left : ℕ) (t : List ℕ) → next_form false (nat_eq (suc left) 0) t ≡ form false false MAX_NESTING t
 free-form left t =
     let some : nat_eq (suc left) 0 ≡ false = grind (arith, nat_tests) in
-    ap (λ c. cond (begins_form false (behind t) && c) (Bad BookTooLong (gaps t)) (form false false 200 t)) some
-    ∙ ap (λ c. cond c (Bad BookTooLong (gaps t)) (form false false 200 t)) (and-false (begins_form false (behind t)))
+    ap (λ c. cond (begins_form false (behind t) && c) (Bad BookTooLong (gaps t)) (form false false MAX_NESTING t)) some
+    ∙ ap (λ c. cond c (Bad BookTooLong (gaps t)) (form false false MAX_NESTING t)) (and-false (begins_form false (behind t)))
 
 nothing-there : (u : List ℕ) → nat_eq (length u) 0 ≡ true → u ≡ []
 nothing-there [] h = refl
@@ -380,7 +381,7 @@ left-is bytes place n t whole room = omega (arith, length-drop (n + 1) t)
 abbrev FoundBook : ℕ → ℕ → List ℕ → Answers → Type 0
 FoundBook bytes left t b = b.1 ≡ None → IsBook bytes left t b.0
 
-form-room : (t : List ℕ) (f : Datum) (n : ℕ) (rest : List ℕ) → form false false 200 t ≡ Got f n → IsForm 200 t f rest → n < length t
+form-room : (t : List ℕ) (f : Datum) (n : ℕ) (rest : List ℕ) → form false false MAX_NESTING t ≡ Got f n → IsForm MAX_NESTING t f rest → n < length t
 form-room t f n rest e p =
     let r = reads-form p false in
     let same : Got f n ≡ Got f r.n = sym e ∙ r.got in
@@ -395,11 +396,11 @@ found-next bytes left place b t (Bad c n) whole some e more h = absurd (let k = 
 found-next bytes zero place b t (Got f n) whole some e more h = absurd (subst IsBad e (none_bad false (b ∷ t)))
 found-next bytes (suc left) place b t (Got f n) whole some e more h =
     let w : List ℕ = b ∷ t in
-    let read : form false false 200 w ≡ Got f n = sym (free-form left w) ∙ e in
+    let read : form false false MAX_NESTING w ≡ Got f n = sym (free-form left w) ∙ e in
     let far : n + 1 ≡ suc n = omega arith in
     let less : suc left - 1 ≡ left = omega arith in
-    let first : IsForm 200 w f (drop (n + 1) w) = subst (Found (IsForm 200 w) w) read (found-form 200 false w) in
-    let near : IsForm 200 w f (drop n t) = subst (λ m. IsForm 200 w f (drop m w)) far first in
+    let first : IsForm MAX_NESTING w f (drop (n + 1) w) = subst (Found (IsForm MAX_NESTING w) w) read (found-form MAX_NESTING false w) in
+    let near : IsForm MAX_NESTING w f (drop n t) = subst (λ m. IsForm MAX_NESTING w f (drop m w)) far first in
     let room : n < length w = form-room w f n (drop (n + 1) w) read first in
     let size : (place + 1) + n + length (drop n t) ≡ bytes = omega (arith, length-drop n t) in
     let rest : IsBook bytes left (drop n t) (book false (suc left - 1) (place + 1) n t).0 = subst (λ k. IsBook bytes k (drop n t) (book false (suc left - 1) (place + 1) n t).0) less (more n size h) in
@@ -447,8 +448,8 @@ form-some _ t _ _ (quoted e p) = some-front (behind t) Quote e (λ q. (let k = q
 form-some _ t _ _ (list e p) = some-front (behind t) Open e (λ q. (let k = q in cc))
 
 reads-next : (bytes left place : ℕ) (t : List ℕ) (f : Datum) (rest : List ℕ) (fs : List (Datum × ℕ)) → place + length t ≡ bytes → nat_eq (length (behind t)) 0 ≡ false →
-    (r : Reads (form false false 200 t) t f rest) → book false left ((place + 1) + r.n) 0 rest ≡ (fs, None) → book false (suc left) place 0 t ≡ ((f, bytes - length (behind t)) ∷ fs, None)
-reads-next bytes left place [] f rest fs whole some r q = absurd (let none : Bad UnclosedList 0 ≡ Got f r.n = sym (form-nil false false 200) ∙ r.got in cc)
+    (r : Reads (form false false MAX_NESTING t) t f rest) → book false left ((place + 1) + r.n) 0 rest ≡ (fs, None) → book false (suc left) place 0 t ≡ ((f, bytes - length (behind t)) ∷ fs, None)
+reads-next bytes left place [] f rest fs whole some r q = absurd (let none : Bad UnclosedList 0 ≡ Got f r.n = sym (form-nil false false MAX_NESTING) ∙ r.got in cc)
 reads-next bytes left place (b ∷ t) f rest fs whole some r q =
     let w : List ℕ = b ∷ t in
     let less : suc left - 1 ≡ left = omega arith in
@@ -459,26 +460,26 @@ reads-next bytes left place (b ∷ t) f rest fs whole some r q =
     book-and false (suc left) place w (Got f r.n) some (free-form left w ∙ r.got) b t refl
     ∙ ap (before false (f, place + gaps w)) behind_it ∙ ap (λ k. ((f, k) ∷ fs, None)) (sym (place-is bytes place w whole some))
 
-size-is : (bytes place : ℕ) (t : List ℕ) (f : Datum) (rest : List ℕ) (r : Reads (form false false 200 t) t f rest) → place + length t ≡ bytes → ((place + 1) + r.n) + length rest ≡ bytes
+size-is : (bytes place : ℕ) (t : List ℕ) (f : Datum) (rest : List ℕ) (r : Reads (form false false MAX_NESTING t) t f rest) → place + length t ≡ bytes → ((place + 1) + r.n) + length rest ≡ bytes
 size-is bytes place t f rest r whole = omega (arith, ap length r.far, length-drop (r.n + 1) t, r.room, whole)
 
 reads-book : {bytes left : ℕ} {t : List ℕ} {fs : List (Datum × ℕ)} → IsBook bytes left t fs → (place : ℕ) → place + length t ≡ bytes → book false left place 0 t ≡ (fs, None)
 reads-book {bytes} {left} (relation.end t e) place whole = book-nothing false left place t (ap length e)
 reads-book {bytes} (next p q) place whole =
     let r = reads-form p false in
-    reads-next bytes _ place _ _ _ _ whole (form-some 200 _ _ _ p) r (reads-book q ((place + 1) + r.n) (size-is bytes place _ _ _ r whole))
+    reads-next bytes _ place _ _ _ _ whole (form-some MAX_NESTING _ _ _ p) r (reads-book q ((place + 1) + r.n) (size-is bytes place _ _ _ r whole))
 
-short-book : (text : List ℕ) → length text ≤ 1048576 → book_of text ≡ parse false text
+short-book : (text : List ℕ) → length text ≤ MAX_BOOK → book_of text ≡ parse false text
 short-book text h =
-    let short : nat_lt 1048576 (length text) ≡ false = grind (arith, nat_tests) in
-    ap (λ c. cond c (parse true (take 1048576 text)) (parse false text)) short
+    let short : nat_lt MAX_BOOK (length text) ≡ false = grind (arith, nat_tests) in
+    ap (λ c. cond c (parse true (take MAX_BOOK text)) (parse false text)) short
 
 -- a book without a fault isn't too long
-ends-short : (text : List ℕ) (fs : List (Datum × ℕ)) → book_of text ≡ (fs, None) → length text ≤ 1048576
-ends-short text fs h = on (nat_lt 1048576 (length text)) refl h
+ends-short : (text : List ℕ) (fs : List (Datum × ℕ)) → book_of text ≡ (fs, None) → length text ≤ MAX_BOOK
+ends-short text fs h = on (nat_lt MAX_BOOK (length text)) refl h
   where
-    on : (c : Bool) → nat_lt 1048576 (length text) ≡ c → cond c (parse true (take 1048576 text)) (parse false text) ≡ (fs, None) → length text ≤ 1048576
-    on true e k = absurd (goes_on (take 1048576 text) (ap (λ b. b.1) k))
+    on : (c : Bool) → nat_lt MAX_BOOK (length text) ≡ c → cond c (parse true (take MAX_BOOK text)) (parse false text) ≡ (fs, None) → length text ≤ MAX_BOOK
+    on true e k = absurd (goes_on (take MAX_BOOK text) (ap (λ b. b.1) k))
     on false e k = grind (arith, nat_tests)
 
 pub grammar : GrammarIsRelation
@@ -487,8 +488,8 @@ grammar = record {
       let short = ends-short text fs h in
       let read : parse false text ≡ (fs, None) = sym (short-book text short) ∙ h in
       let whole : 0 + 0 + length text ≡ length text = omega arith in
-      let found = found-book (length text) 10000 0 0 text whole (ap (λ b. b.1) read) in
-      (short, subst (IsBook (length text) 10000 text) (ap (λ b. b.0) read) found));
+      let found = found-book (length text) MAX_FORMS 0 0 text whole (ap (λ b. b.1) read) in
+      (short, subst (IsBook (length text) MAX_FORMS text) (ap (λ b. b.0) read) found));
   each = λ text fs short p. (let whole : 0 + length text ≡ length text = omega arith in short-book text short ∙ reads-book p 0 whole);
 }
 

@@ -14,6 +14,7 @@ use Rattle.lisp_reader.specs.declared.token.Token.TheVariants as tokens
 use Rattle.lisp_reader.proofs.Pieces.{gaps-none}
 use Rattle.lisp_data.specs.declared.code.Code.{Code}
 use Rattle.lisp_data.specs.declared.code.Code.TheVariants.{BadByte, UnclosedList, StrayClose, TooDeep}
+use Rattle.lisp_reader.specs.declared.limits.TheConstants.{MAX_NESTING}
 
 pub shift-shift : (m n : ℕ) (r : Read) → shift m (shift n r) ≡ shift (m + n) r
 shift-shift m n (Got f k) = let e : m + (n + k) ≡ (m + n) + k = omega arith in ap (Got f) e
@@ -85,11 +86,11 @@ module _ (more : Bool) where
   module _ (xs : List ℕ) (place depth : ℕ) where
     -- what is read at a place, where so many lists and quotes are around it
     abbrev pub read_at : Read
-    read_at = shift place (form more (nat_lt 0 depth) (200 - depth) (drop place xs))
+    read_at = shift place (form more (nat_lt 0 depth) (MAX_NESTING - depth) (drop place xs))
 
     by_token : (token : Token) → seen token ≡ front (drop place xs) →
-        read_at ≡ shift place (one_by more (nat_lt 0 depth) (list_in (200 - depth)) (mark_in (200 - depth)) (drop place xs) (seen token))
-    by_token token e = ap (shift place) (form-at (nat_lt 0 depth) (200 - depth) (drop place xs) (seen token) (token-gaps token _ e) (sym e))
+        read_at ≡ shift place (one_by more (nat_lt 0 depth) (list_in (MAX_NESTING - depth)) (mark_in (MAX_NESTING - depth)) (drop place xs) (seen token))
+    by_token token e = ap (shift place) (form-at (nat_lt 0 depth) (MAX_NESTING - depth) (drop place xs) (seen token) (token-gaps token _ e) (sym e))
 
     pub read-nothing : seen tokens.Nothing ≡ front (drop place xs) → read_at ≡ Bad (at_end more UnclosedList) place
     read-nothing e = by_token tokens.Nothing e ∙ bad-here _ place
@@ -115,32 +116,32 @@ module _ (more : Bool) where
     pub read-atom : (n : ℕ) → seen (tokens.Atom n) ≡ front (drop place xs) → read_at ≡ shift place (leaf_read more (leaf_at more (drop place xs) n) n)
     read-atom n e = by_token (tokens.Atom n) e
 
-    pub read-open_last : depth ≡ 200 → seen tokens.Open ≡ front (drop place xs) → read_at ≡ Bad TooDeep place
+    pub read-open_last : depth ≡ MAX_NESTING → seen tokens.Open ≡ front (drop place xs) → read_at ≡ Bad TooDeep place
     read-open_last d e =
-        let none : 200 - depth ≡ 0 = omega arith in
+        let none : MAX_NESTING - depth ≡ 0 = omega arith in
         by_token tokens.Open e ∙ ap (λ k. shift place (list_in k (drop place xs))) none ∙ bad-here _ place
 
-    pub read-quote_last : depth ≡ 200 → seen tokens.Quote ≡ front (drop place xs) → read_at ≡ Bad TooDeep place
+    pub read-quote_last : depth ≡ MAX_NESTING → seen tokens.Quote ≡ front (drop place xs) → read_at ≡ Bad TooDeep place
     read-quote_last d e =
-        let none : 200 - depth ≡ 0 = omega arith in
+        let none : MAX_NESTING - depth ≡ 0 = omega arith in
         by_token tokens.Quote e ∙ ap (λ k. shift place (mark_in k (drop place xs))) none ∙ bad-here _ place
 
-    pub read-open : depth < 200 → seen tokens.Open ≡ front (drop place xs) →
-        read_at ≡ shift (place + 1) (items more (form more true (200 - (depth + 1))) false 0 (drop (place + 1) xs))
+    pub read-open : depth < MAX_NESTING → seen tokens.Open ≡ front (drop place xs) →
+        read_at ≡ shift (place + 1) (items more (form more true (MAX_NESTING - (depth + 1))) false 0 (drop (place + 1) xs))
     read-open d e =
-        let next : 200 - depth ≡ suc (200 - (depth + 1)) = omega arith in
-        let inner = items more (form more true (200 - (depth + 1))) false 0 in
+        let next : MAX_NESTING - depth ≡ suc (MAX_NESTING - (depth + 1)) = omega arith in
+        let inner = items more (form more true (MAX_NESTING - (depth + 1))) false 0 in
         by_token tokens.Open e ∙ ap (λ k. shift place (list_in k (drop place xs))) next ∙ shift-shift place 1 _ ∙ ap (λ t. shift (place + 1) (inner t)) (drop-drop 1 place xs)
 
-    pub read-quote : depth < 200 → seen tokens.Quote ≡ front (drop place xs) →
-        read_at ≡ mapped quote_form (shift (place + 1) (form more (nat_lt 0 (depth + 1)) (200 - (depth + 1)) (drop (place + 1) xs)))
+    pub read-quote : depth < MAX_NESTING → seen tokens.Quote ≡ front (drop place xs) →
+        read_at ≡ mapped quote_form (shift (place + 1) (form more (nat_lt 0 (depth + 1)) (MAX_NESTING - (depth + 1)) (drop (place + 1) xs)))
     read-quote d e =
         let inside : true ≡ nat_lt 0 (depth + 1) = grind (arith, nat_tests) in
-        let next : 200 - depth ≡ suc (200 - (depth + 1)) = omega arith in
-        let inner = form more true (200 - (depth + 1)) in
+        let next : MAX_NESTING - depth ≡ suc (MAX_NESTING - (depth + 1)) = omega arith in
+        let inner = form more true (MAX_NESTING - (depth + 1)) in
         by_token tokens.Quote e ∙ ap (λ k. shift place (mark_in k (drop place xs))) next ∙ shift-shift place 1 _ ∙ shift-mapped (place + 1) quote_form _
         ∙ ap (λ t. mapped quote_form (shift (place + 1) (inner t))) (drop-drop 1 place xs)
-        ∙ ap (λ b. mapped quote_form (shift (place + 1) (form more b (200 - (depth + 1)) (drop (place + 1) xs)))) inside
+        ∙ ap (λ b. mapped quote_form (shift (place + 1) (form more b (MAX_NESTING - (depth + 1)) (drop (place + 1) xs)))) inside
 
 -- what was read is what the definition gives
 pub says-same : (q r : Read) (a : Result (Form × ℕ) ReadError) → r ≡ q → SaysRead q a → SaysRead r a

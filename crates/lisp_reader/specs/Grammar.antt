@@ -5,6 +5,7 @@ use Rattle.lisp_data.specs.Atoms.{Leaf, Integer, Named, Point, Wrong, leaf, is_o
 use Rattle.lisp_reader.specs.Spans.{Front, Nothing, Gap, EndlessGap, Open, Close, Quote, Text, EndlessText, Atom, Stray, unescaped, front, begins, is_sharp, gaps, behind}
 use Rattle.lisp_data.specs.declared.code.Code.{Code}
 use Rattle.lisp_data.specs.declared.code.Code.TheVariants.{BadByte, UnclosedList, StrayClose, BadDot, TooDeep, BookTooLong, UnclosedText}
+use Rattle.lisp_reader.specs.declared.limits.TheConstants.{MAX_BOOK, MAX_FORMS, MAX_NESTING}
 
 -- What a text begins with: a form and the place of its last byte, or the first fault and its place. Places count from the text's first byte.
 pub data Read : Type 0 where
@@ -135,7 +136,7 @@ module _ (more : Bool) where
 
   -- one form of a book, of which no more may come where `none` says so
   abbrev pub next_form : Bool → List ℕ → Read
-  next_form none text = if begins_form (behind text) && none then Bad BookTooLong (gaps text) else form false 200 text
+  next_form none text = if begins_form (behind text) && none then Bad BookTooLong (gaps text) else form false MAX_NESTING text
 
   abbrev pub book_and : Read → ℕ → (Datum → ℕ → List (Datum × ℕ) × Option (Code × ℕ)) → List (Datum × ℕ) × Option (Code × ℕ)
   book_and (Got f n) place rest = rest f n
@@ -154,8 +155,8 @@ module _ (more : Bool) where
       else book_and (next_form (nat_eq left 0) (b ∷ t)) place (λ f n. before (f, place + gaps (b ∷ t)) (book (left - 1) (place + 1) n t))
 
   abbrev pub parse : List ℕ → List (Datum × ℕ) × Option (Code × ℕ)
-  parse text = book 10000 0 0 text
+  parse text = book MAX_FORMS 0 0 text
 
--- a whole book, of which a reader sees the first 1,048,576 bytes
+-- a whole book, of which a reader sees as many bytes as a book may have
 abbrev pub book_of : List ℕ → List (Datum × ℕ) × Option (Code × ℕ)
-book_of bytes = if nat_lt 1048576 (length bytes) then parse true (take 1048576 bytes) else parse false bytes
+book_of bytes = if nat_lt MAX_BOOK (length bytes) then parse true (take MAX_BOOK bytes) else parse false bytes

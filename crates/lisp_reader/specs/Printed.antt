@@ -8,6 +8,7 @@ use Rattle.lisp_data.specs.Values.{Val}
 use Rattle.lisp_data.specs.Values as v
 use Rattle.lisp_reader.specs.FormValue.{has_text, value}
 use Rattle.lisp_reader.specs.Grammar.{book_of}
+use Rattle.lisp_reader.specs.declared.limits.TheConstants.{MAX_BOOK, MAX_NESTING}
 
 -- what stands between the quotes of a string: a backslash before each quote and each backslash
 unfoldable pub escaped : List ℕ → List ℕ
@@ -64,7 +65,7 @@ ArePrintable (f ∷ fs) = IsPrintable f × ArePrintable fs
 
 -- the text of a form, as a book, is that form alone, if it keeps the limits of a book
 pub record IsReadAgain (d : Datum) : Type 0 where
-  pub read : nesting d ≤ 200 → length (form_text d) ≤ 1048576 → book_of (form_text d) ≡ ((d, 0) ∷ [], None)
+  pub read : nesting d ≤ MAX_NESTING → length (form_text d) ≤ MAX_BOOK → book_of (form_text d) ≡ ((d, 0) ∷ [], None)
 
 -- the text of a value is read as a form, which has no text in it and whose value is that value
 pub record IsValueAgain (x : Val) : Type 0 where

@@ -4,6 +4,7 @@ use Rattle.lisp_data.specs.Datum.{Datum, IntForm, SymForm, TextForm, PairForm, n
 use Rattle.lisp_data.specs.Atoms.{Integer, Named, Point, leaf}
 use Rattle.lisp_reader.specs.Spans.{Open, Close, Quote, Text, Atom, unescaped, front, behind}
 use Rattle.lisp_reader.specs.Grammar.{quote_form, book_of}
+use Rattle.lisp_reader.specs.declared.limits.TheConstants.{MAX_BOOK, MAX_FORMS, MAX_NESTING}
 
 mutual
   -- `IsForm k t f rest`: behind its gaps the text t begins with the form f, in which k lists and quotes at most are open at once, and
@@ -26,10 +27,10 @@ mutual
 -- A book of so many bytes, from its text t on: forms with their places, which are so many at most.
 pub data IsBook : ℕ → ℕ → List ℕ → List (Datum × ℕ) → Type 0 where
   end : {bytes left : ℕ} (t : List ℕ) → behind t ≡ [] → IsBook bytes left t []
-  next : {bytes left : ℕ} {t : List ℕ} {f : Datum} {rest : List ℕ} {fs : List (Datum × ℕ)} → IsForm 200 t f rest → IsBook bytes left rest fs →
+  next : {bytes left : ℕ} {t : List ℕ} {f : Datum} {rest : List ℕ} {fs : List (Datum × ℕ)} → IsForm MAX_NESTING t f rest → IsBook bytes left rest fs →
       IsBook bytes (suc left) t ((f, bytes - length (behind t)) ∷ fs)
 
 -- A book has no fault exactly where it is one by the relation and keeps the limit of its bytes, and its forms and their places are the relation's.
 pub record GrammarIsRelation : Type 0 where
-  pub only : (text : List ℕ) (fs : List (Datum × ℕ)) → book_of text ≡ (fs, None) → (length text ≤ 1048576) × IsBook (length text) 10000 text fs
-  pub each : (text : List ℕ) (fs : List (Datum × ℕ)) → length text ≤ 1048576 → IsBook (length text) 10000 text fs → book_of text ≡ (fs, None)
+  pub only : (text : List ℕ) (fs : List (Datum × ℕ)) → book_of text ≡ (fs, None) → (length text ≤ MAX_BOOK) × IsBook (length text) MAX_FORMS text fs
+  pub each : (text : List ℕ) (fs : List (Datum × ℕ)) → length text ≤ MAX_BOOK → IsBook (length text) MAX_FORMS text fs → book_of text ≡ (fs, None)

@@ -6,6 +6,7 @@ use Rattle.lisp_data.specs.Atoms.{is_narrow}
 use Rattle.lisp_data.specs.SymbolText.{IsSymbolText}
 use Rattle.lisp_reader.specs.Grammar.{quote_form, book_of}
 use Rattle.lisp_reader.specs.Printed.{escaped, form_text, nesting, IsPrintable}
+use Rattle.lisp_reader.specs.declared.limits.TheConstants.{MAX_BOOK, MAX_NESTING}
 
 mutual
   -- A text of a form, in which so many lists and quotes at most are open at once: an integer in decimal, a symbol's text, a string,
@@ -26,7 +27,7 @@ mutual
 
 -- Each text of a form, as a book, is that form alone, if it keeps the limits of a book.
 abbrev pub TextsAreRead : Type 0
-TextsAreRead = (d : Datum) (text : List ℕ) → IsText 200 d text → length text ≤ 1048576 → book_of text ≡ ((d, 0) ∷ [], None)
+TextsAreRead = (d : Datum) (text : List ℕ) → IsText MAX_NESTING d text → length text ≤ MAX_BOOK → book_of text ≡ ((d, 0) ∷ [], None)
 
 -- What is printed of a form is a text of it.
 abbrev pub PrintsAreTexts : Type 0

@@ -2,6 +2,7 @@
 #![tactic(auto)]
 
 mod laws;
+mod limits;
 mod print;
 mod read;
 mod reader;
@@ -12,6 +13,7 @@ pub use laws::{
     calls_read_in_order, forms_are_read_again, grammar_is_a_relation, prints_are_texts,
     texts_are_read, values_are_read_again,
 };
+pub use limits::{MAX_BOOK, MAX_FORMS, MAX_NESTING};
 pub use print::{print_form, print_value};
 pub use read::ReadError;
 pub use reader::{FormReader, Located};

@@ -14,7 +14,9 @@ ghost use Rattle.lisp_reader.specs.Grammar as spec;
 ghost use Rattle.lisp_reader.specs.view.Closes.{closed, tail_at};
 ghost use Rattle.lisp_reader.specs.view.TokenView.{seen, IsWithin};
 ghost use Rattle.lisp_reader.specs.view.KindView.{seen_kind};
+ghost use Rattle.lisp_reader.specs.declared.limits.TheConstants.{MAX_NESTING};
 
+use crate::limits::MAX_NESTING;
 use crate::token::{Token, next_token};
 use lisp_data::{Atom, Bytes, Code, Form, Forms, Memory, Symbol};
 use std::alloc::Global;
@@ -33,9 +35,6 @@ pub struct Input<'a> {
     pub bytes: &'a [u8],
     pub more: bool,
 }
-
-/// How many lists and quotes may be open at once.
-const MAX_DEPTH: usize = 200;
 
 /// What the rest of a list begins with.
 #[derive(Clone, Copy, Debug, PartialEq, Eq)]
@@ -59,10 +58,10 @@ impl From<Memory> for ReadError {
 
 /// A list begins behind a point, and isn't too deep.
 fn joins(token: Token, depth: usize) -> bool
-    ensures { IsTrue result ↔ ((token ≡ Token.Open) × (depth < 200)) }
+    ensures { IsTrue result ↔ ((token ≡ Token.Open) × (depth < MAX_NESTING)) }
 {
     match token {
-        Token::Open => depth < MAX_DEPTH,
+        Token::Open => depth < MAX_NESTING,
         _ => false,
     }
 }
@@ -348,8 +347,8 @@ impl<'a> Input<'a> {
         requires inside { place ≤ length self.now.bytes.now }
         requires token { seen token ≡ spans.front (drop place self.now.bytes.now) }
         requires within { IsWithin (length self.now.bytes.now - place) (seen token) }
-        requires depth { depth ≤ 200 }
-        ensures says { SaysRead (spec.shift place (spec.form self.now.more (nat_lt 0 depth) (200 - depth) (drop place self.now.bytes.now))) result }
+        requires depth { depth ≤ MAX_NESTING }
+        ensures says { SaysRead (spec.shift place (spec.form self.now.more (nat_lt 0 depth) (MAX_NESTING - depth) (drop place self.now.bytes.now))) result }
         ensures proper { IfOk result (λ x. IsProper x.0) }
         ensures within { IfOk result (λ x. (place ≤ x.1) × (x.1 < length self.now.bytes.now)) }
     {
@@ -362,7 +361,10 @@ impl<'a> Input<'a> {
             Token::Stray => Err(refused(Code::BadByte, place)),
             Token::Text(n) => self.string(alloc, place, n),
             Token::Atom(n) => self.atom(alloc, place, n),
-            Token::Open | Token::Quote if depth == MAX_DEPTH => Err(refused(Code::TooDeep, place)),
+            Token::Open | Token::Quote if depth == MAX_NESTING => Err(refused(
+                Code::TooDeep,
+                place,
+            )),
             Token::Open => self.list(alloc, place + 1, depth + 1),
             Token::Quote => self.quoted(alloc, place + 1, depth + 1),
         }
@@ -374,8 +376,8 @@ impl<'a> Input<'a> {
     fn quoted(&self, alloc: Global, at: usize, depth: usize) -> Result<(Form, usize), ReadError>
         requires inside { at ≤ length self.now.bytes.now }
         requires quote { 0 < depth }
-        requires depth { depth ≤ 200 }
-        ensures says { SaysRead (spec.mapped spec.quote_form (spec.shift at (spec.form self.now.more (nat_lt 0 depth) (200 - depth) (drop at self.now.bytes.now)))) result }
+        requires depth { depth ≤ MAX_NESTING }
+        ensures says { SaysRead (spec.mapped spec.quote_form (spec.shift at (spec.form self.now.more (nat_lt 0 depth) (MAX_NESTING - depth) (drop at self.now.bytes.now)))) result }
         ensures proper { IfOk result (λ x. IsProper x.0) }
         ensures within { IfOk result (λ x. (at ≤ x.1) × (x.1 < length self.now.bytes.now)) }
     {
@@ -390,8 +392,8 @@ impl<'a> Input<'a> {
     fn list(&self, alloc: Global, at: usize, depth: usize) -> Result<(Form, usize), ReadError>
         requires inside { at ≤ length self.now.bytes.now }
         requires list { 0 < depth }
-        requires depth { depth ≤ 200 }
-        ensures says { SaysRead (spec.shift at (spec.items self.now.more (spec.form self.now.more true (200 - depth)) false 0 (drop at self.now.bytes.now))) result }
+        requires depth { depth ≤ MAX_NESTING }
+        ensures says { SaysRead (spec.shift at (spec.items self.now.more (spec.form self.now.more true (MAX_NESTING - depth)) false 0 (drop at self.now.bytes.now))) result }
         ensures proper { IfOk result (λ x. IsProper x.0) }
         ensures within { IfOk result (λ x. (at ≤ x.1) × (x.1 < length self.now.bytes.now)) }
     {
@@ -443,8 +445,8 @@ impl<'a> Input<'a> {
         requires token { seen token ≡ spans.front (drop place self.now.bytes.now) }
         requires within { IsWithin (length self.now.bytes.now - place) (seen token) }
         requires list { 0 < depth }
-        requires depth { depth ≤ 200 }
-        requires joined { joined ≤ 200 }
+        requires depth { depth ≤ MAX_NESTING }
+        requires joined { joined ≤ MAX_NESTING }
         ensures says { SaysRead (tail_at self.now.more self.now.bytes.now joined depth (forms_of items) place) result }
         ensures proper { IfOk result (λ x. AreProper items → 0 < length (forms_of items) → IsProper x.0) }
         ensures within { IfOk result (λ x. (place ≤ x.1) × (x.1 < length self.now.bytes.now)) }

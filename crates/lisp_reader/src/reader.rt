@@ -9,7 +9,9 @@ ghost use Rattle.lisp_reader.specs.Grammar as spec;
 ghost use Rattle.lisp_reader.specs.Grammar.{parse, book};
 ghost use Rattle.lisp_reader.specs.Spans as spans;
 ghost use Rattle.lisp_reader.specs.view.TokenView.{seen};
+ghost use Rattle.lisp_reader.specs.declared.limits.TheConstants.{MAX_FORMS};
 
+use crate::limits::MAX_FORMS;
 use crate::read::{Input, ReadError, refused};
 use crate::token::{Token, next_token};
 use lisp_data::{Code, Form, Memory};
@@ -128,12 +130,12 @@ impl<'a> FormReader<'a> {
     #[tactic(auto, using(crate::proofs::Ends::few))]
     pub fn new(bytes: &'a [u8], more: bool) -> FormReader<'a>
         ensures parsed { result ≡ parse more bytes.now }
-        ensures few { length result.0 ≤ 10000 }
+        ensures few { length result.0 ≤ MAX_FORMS }
     {
         FormReader {
             input: Input { bytes, more },
             at: 0,
-            left: 10_000,
+            left: MAX_FORMS,
         }
     }
 

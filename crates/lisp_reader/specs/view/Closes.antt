@@ -2,6 +2,7 @@
 use Rattle.std.specs.Prelude.{ℕ, zero, suc, ◌+◌, ◌-◌, Bool, true, List, drop}
 use Rattle.lisp_data.specs.Datum.{Datum, chain}
 use Rattle.lisp_reader.specs.Grammar.{Read, Got, Bad, shift, mapped, closing, last, form}
+use Rattle.lisp_reader.specs.declared.limits.TheConstants.{MAX_NESTING}
 
 module _ (more : Bool) where
   -- behind a form that was read as the last of a list: the place where the list closes
@@ -16,4 +17,4 @@ module _ (more : Bool) where
 
   -- what is read behind the point of a list with these items, in so many lists and quotes, of which so many are joined to it
   abbrev pub tail_at : List ℕ → ℕ → ℕ → List Datum → ℕ → Read
-  tail_at bytes joined depth items place = closed bytes joined (mapped (chain items) (shift place (last more (form more true (200 - depth)) (drop place bytes))))
+  tail_at bytes joined depth items place = closed bytes joined (mapped (chain items) (shift place (last more (form more true (MAX_NESTING - depth)) (drop place bytes))))

@@ -8,6 +8,7 @@ use Rattle.lisp_reader.specs.declared.token.Token.{Token}
 use Rattle.lisp_reader.proofs.Steps.{form-behind, says-same}
 use Rattle.lisp_reader.proofs.Items.{list_at, list-item, list-point, tail-behind, tail-join, tail-form, mapped-place, mapped-fault, fault-same}
 use Rattle.lisp_reader.proofs.read.Input.+read.Goals as goal
+use Rattle.lisp_reader.specs.declared.limits.TheConstants.{MAX_NESTING}
 
 pub list-returns-then-not-joins-clause-says : goal.list-returns-then-not-joins-clause-says
 list-returns-then-not-joins-clause-says t c =
@@ -75,14 +76,14 @@ quoted-returns-in_err-form-clause-says t c =
     let token = c.next_token-token in
     let depth = c.args.depth in
     rw (p.1, p.2)
-    (fault-same quote_form _ _ _ (ap (mapped quote_form) (form-behind c.args.self.now.more (nat_lt 0 depth) (200 - depth) c.args.self.now.bytes.now c.args.at token.result.1 token.result.0 token.ensures.place token.ensures.token))
+    (fault-same quote_form _ _ _ (ap (mapped quote_form) (form-behind c.args.self.now.more (nat_lt 0 depth) (MAX_NESTING - depth) c.args.self.now.bytes.now c.args.at token.result.1 token.result.0 token.ensures.place token.ensures.token))
     c.in_err-form.ensures.says)
 
 pub quoted-returns-clause-says : goal.quoted-returns-clause-says
 quoted-returns-clause-says t c =
     let token = c.next_token-token in
     let depth = c.args.depth in
-    ap (mapped quote_form) (form-behind c.args.self.now.more (nat_lt 0 depth) (200 - depth) c.args.self.now.bytes.now c.args.at token.result.1 token.result.0 token.ensures.place token.ensures.token ∙ c.in_ok-form.ensures.says)
+    ap (mapped quote_form) (form-behind c.args.self.now.more (nat_lt 0 depth) (MAX_NESTING - depth) c.args.self.now.bytes.now c.args.at token.result.1 token.result.0 token.ensures.place token.ensures.token ∙ c.in_ok-form.ensures.says)
     ∙ ap (λ f. Got f c.in_ok-form.last) (sym c.in_ok-quote_of.ensures.form)
 
 pub tail-returns-in_err-end : goal.tail-returns-in_err-end
