@@ -15,6 +15,7 @@ use Rattle.ring_laws.specs.Held.{held, exponents, together, by_exponents, SameSu
 use Rattle.ring_laws.specs.Expansions.{excess_at, SaysSum, SaysExpansion, SaysLimit}
 use Rattle.ring_laws.proofs.Support.{same_size}
 use Rattle.ring_laws.proofs.Exponents.{covered, size_key, compared, sum_expanded, product_expanded, negation_expanded, has_first, has_second}
+use Rattle.ring_laws.specs.declared.limits.TheConstants.{MAX_MONOMIALS, MAX_NORM}
 
 abbrev Keyed : Type 0
 Keyed = List (List ℕ × ℤ)
@@ -34,8 +35,8 @@ pub one_entry : (es zs : Keyed) (k k' : List ℕ) (z z' : ℤ) → zs ≡ [] →
 one_entry es zs k k' z z' n e f h = record { same = λ q. h.same q ∙ ap (λ r. coefficient bytes_eq ((k', z') ∷ r) q) n ∙ ap₂ (λ x y. coefficient bytes_eq ((x, y) ∷ []) q) e f }
 
 -- past the norm, whatever the sum is
-pub says_wide : (n : ℕ) (es : Keyed) → 2 ^ 127 - 1 < n → SaysSum (Err TooWide) n es
-says_wide n es h = ap (λ t. cond t (Some TooWide) (cond (nat_lt 4096 (length (support bytes_eq es))) (Some TooLarge) None)) (lt_true (2 ^ 127 - 1) n h)
+pub says_wide : (n : ℕ) (es : Keyed) → MAX_NORM < n → SaysSum (Err TooWide) n es
+says_wide n es h = ap (λ t. cond t (Some TooWide) (cond (nat_lt MAX_MONOMIALS (length (support bytes_eq es))) (Some TooLarge) None)) (lt_true MAX_NORM n h)
   where
     lt_true : (m k : ℕ) → m < k → nat_lt m k ≡ true
     lt_true m k l = search (tests, rules)
@@ -131,15 +132,15 @@ own_none (Sum p q) h = or_none (first_excess q) _ (or_none (first_excess p) _ h)
 own_none (Product p q) h = or_none (first_excess q) _ (or_none (first_excess p) _ h)
 own_none (Negation p) h = or_none (first_excess p) _ h
 
-narrow_excess : (n k : ℕ) → excess n k ≡ None → n ≤ 2 ^ 127 - 1
-narrow_excess n k h = by_test (nat_lt (2 ^ 127 - 1) n) refl h
+narrow_excess : (n k : ℕ) → excess n k ≡ None → n ≤ MAX_NORM
+narrow_excess n k h = by_test (nat_lt MAX_NORM n) refl h
   where
-    by_test : (t : Bool) → nat_lt (2 ^ 127 - 1) n ≡ t → cond t (Some TooWide) (cond (nat_lt 4096 k) (Some TooLarge) None) ≡ None → n ≤ 2 ^ 127 - 1
+    by_test : (t : Bool) → nat_lt MAX_NORM n ≡ t → cond t (Some TooWide) (cond (nat_lt MAX_MONOMIALS k) (Some TooLarge) None) ≡ None → n ≤ MAX_NORM
     by_test true f g = cc
-    by_test false f g = ltb-false (2 ^ 127 - 1) n f
+    by_test false f g = ltb-false MAX_NORM n f
 
-pub narrow : (x : Expansion) (table : List Tm) (e : Expression) → SaysExpansion (Ok x) table e → x.norm ≤ 2 ^ 127 - 1
-narrow x table e s = subst (λ n. n ≤ 2 ^ 127 - 1) (sym s.1) (narrow_excess (norm e) _ (own_none e s.2))
+pub narrow : (x : Expansion) (table : List Tm) (e : Expression) → SaysExpansion (Ok x) table e → x.norm ≤ MAX_NORM
+narrow x table e s = subst (λ n. n ≤ MAX_NORM) (sym s.1) (narrow_excess (norm e) _ (own_none e s.2))
 
 -- ---- two terms
 pub limit_first : (x : RingError) (table : List Tm) (a b : Tm) → SaysExpansion (Err x) table (expression a) → SaysLimit {A = Bool} (Err x) (excess_of a b)

@@ -7,11 +7,12 @@ use Rattle.ring_laws.specs.declared.errors.RingError.TheVariants.{TooWide, TooLa
 use Rattle.ring_laws.specs.Expressions.{Expression, Literal, Atom, Sum, Product, Negation, expression}
 use Rattle.ring_laws.specs.FormalSums.{support}
 use Rattle.ring_laws.specs.Polynomials.{alike, monomials, norm}
+use Rattle.ring_laws.specs.declared.limits.TheConstants.{MAX_MONOMIALS, MAX_NORM}
 
 -- the limit that is passed: the norm's, and else that of the monomials whose coefficient isn't 0
 abbrev pub excess : ℕ → ℕ → Option RingError
 excess n count =
-    if nat_lt (2 ^ 127 - 1) n then Some TooWide else (if nat_lt 4096 count then Some TooLarge else None)
+    if nat_lt MAX_NORM n then Some TooWide else (if nat_lt MAX_MONOMIALS count then Some TooLarge else None)
 
 -- the limit that the whole expression passes
 abbrev pub own_excess : Expression → Option RingError

@@ -5,19 +5,15 @@ ghost use Rattle.ring_laws.specs.Expressions.{expression};
 ghost use Rattle.ring_laws.specs.FormalSums.{negated, products};
 ghost use Rattle.ring_laws.specs.Held.{held, exponents, together, HasAtoms};
 ghost use Rattle.ring_laws.specs.Expansions.{SaysSum, SaysExpansion};
+ghost use Rattle.ring_laws.specs.declared.limits.TheConstants.{MAX_NORM};
 
 use crate::atoms::{exponents_of, exponents_of_none};
 use crate::errors::RingError;
+use crate::limits::{MAX_MONOMIALS, MAX_NORM};
 use crate::polynomial::Polynomial;
 use crate::shape::{Reading, read};
 use std::alloc::Global;
 use terms::Term;
-
-/// The most that a norm is.
-const MAX_NORM: u128 = 170_141_183_460_469_231_731_687_303_715_884_105_727;
-
-/// The most monomials with a coefficient other than 0.
-const MAX_SIZE: usize = 4_096;
 
 /// A term multiplied out, with its norm.
 pub(crate) struct Expansion {
@@ -36,10 +32,10 @@ impl Drop for Expansion {
 
 /// The polynomial, where it has no more monomials than the limit.
 fn small(polynomial: Polynomial, norm: u128) -> Result<Expansion, RingError>
-    requires { norm ≤ 2 ^ 127 - 1 }
+    requires { norm ≤ MAX_NORM }
     ensures { SaysSum result norm (held polynomial.terms.entries) }
 {
-    if polynomial.size() > MAX_SIZE {
+    if polynomial.size() > MAX_MONOMIALS {
         return Err(RingError::TooLarge);
     }
     Ok(Expansion { polynomial, norm })
@@ -106,7 +102,7 @@ impl Expansion {
 
     #[tactic(auto, using(crate::proofs::Expansions::expansions))]
     fn negated(&self, alloc: Global) -> Result<Expansion, RingError>
-        requires { self.now.norm ≤ 2 ^ 127 - 1 }
+        requires { self.now.norm ≤ MAX_NORM }
         ensures { SaysSum result self.now.norm (negated (held self.now.polynomial.terms.entries)) }
     {
         let polynomial = self.polynomial.negated(alloc)?;

@@ -11,6 +11,7 @@ use Rattle.terms.specs.Measures.{call1, call2}
 use Rattle.term_forms.specs.Translation.{Outcome, and_rest, levels, limited, is_limited, too_large}
 use Rattle.term_forms.specs.TranslationView.{SaysOutcome}
 use Rattle.term_forms.specs.Outcomes.{each}
+use Rattle.term_forms.specs.declared.limits.TheConstants.{MAX_LEVELS, MAX_NODES}
 
 -- one term is no larger than another
 pub record IsWithin (t u : Tm) : Type 0 where
@@ -28,7 +29,7 @@ by_choice-ok false t u h = cc
 pub limited-same : (t u : Tm) → limited t ≡ Ok u → u ≡ t
 limited-same t u h = by_choice-ok (is_limited t) t u h
 
-tests-grow : (a b c d : ℕ) → a ≤ c → b ≤ d → (nat_le a 100000 && nat_le b 1000) ≡ false → (nat_le c 100000 && nat_le d 1000) ≡ false
+tests-grow : (a b c d : ℕ) → a ≤ c → b ≤ d → (nat_le a MAX_NODES && nat_le b MAX_LEVELS) ≡ false → (nat_le c MAX_NODES && nat_le d MAX_LEVELS) ≡ false
 tests-grow a b c d p q h = grind (arith, nat_tests)
 
 -- a refusal of a term is one of each larger one

@@ -2,7 +2,7 @@ mod NameLemmas
 pub mod TranslatedTerms
 pub mod Prints
 pub mod TermForms
-pub mod Limits
+pub mod Sizes
 pub mod Each
 pub mod Growing
 pub mod Replaced

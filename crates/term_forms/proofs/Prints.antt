@@ -9,6 +9,7 @@ use Rattle.lisp_reader.proofs.Leaves.{names-nil, names-quote}
 use Rattle.terms.specs.Terms.{Tm, Var, Quote, Call, Tms, Done, More, tms}
 use Rattle.term_forms.specs.Printing.{term_text, arguments_text, form_of_term, form_of_arguments, IsPrintableTerm, IsTermAgain}
 use Rattle.terms.proofs.Args.{args, tms-drop}
+use Rattle.lisp_reader.specs.declared.limits.TheConstants.{MAX_NESTING}
 
 mutual
   text-of : (t : Tm) (k : ℕ) → IsPrintableTerm t → nesting (form_of_term t) ≤ k → IsText k (form_of_term t) (term_text t)
@@ -23,7 +24,7 @@ mutual
   rest-of (More t ts) k p h = next (text-of t k p.0 (omega arith)) (rest-of ts k p.1 (omega arith))
 
 pub terms-again : (t : Tm) → IsPrintableTerm t → IsTermAgain t
-terms-again t p = record { read = λ h l. texts-read (form_of_term t) (term_text t) (text-of t 200 p h) l }
+terms-again t p = record { read = λ h l. texts-read (form_of_term t) (term_text t) (text-of t MAX_NESTING p h) l }
 
 -- the arguments from a place on, where the one there and those behind it are printable
 pub printable-from : (ts : List Tm) (i : ℕ) (d : Tm) → i < length ts → IsPrintableTerm (get_or ts i d) → IsPrintable (form_of_arguments (tms (drop (i + 1) ts))) → IsPrintable (form_of_arguments (tms (drop i ts)))

@@ -11,6 +11,7 @@ use Rattle.term_forms.specs.Macros.{macro}
 use Rattle.term_forms.specs.Translation.{Takes, Scope, and_then, map_outcome, levels, levels_in, is_limited, limited, atom, is_small, too_large, is_list, items, call_head, word_head, head, applied, and_rest, translate, by_word, terms}
 use Rattle.term_forms.specs.Printing.{form_of_term, form_of_arguments}
 use Rattle.term_forms.specs.TranslationLaws.{Quotes, QuotesAll, is_word, WordsApart, TermsAreTranslated}
+use Rattle.term_forms.specs.declared.limits.TheConstants.{MAX_LEVELS, MAX_NODES}
 
 pub plain : (v : Val) → has_text (datum_of v) ≡ false
 plain (Int z) = refl
@@ -72,16 +73,16 @@ tms-tm_list (More t ts) = ap (More t) (tms-tm_list ts)
 
 -- the limits, for parts
 record Within (n h : ℕ) : Type 0 where
-  nodes_fit : n ≤ 100000
-  levels_fits : h ≤ 1000
+  nodes_fit : n ≤ MAX_NODES
+  levels_fits : h ≤ MAX_LEVELS
 
 within : (t : Tm) → is_limited t ≡ true → Within (nodes t) (levels t)
 within t e =
-    let p = and_parts (nat_le (nodes t) 100000) (nat_le (levels t) 1000) e in
-    record { nodes_fit = leb-true (nodes t) 100000 p.0; levels_fits = leb-true (levels t) 1000 p.1 }
+    let p = and_parts (nat_le (nodes t) MAX_NODES) (nat_le (levels t) MAX_LEVELS) e in
+    record { nodes_fit = leb-true (nodes t) MAX_NODES p.0; levels_fits = leb-true (levels t) MAX_LEVELS p.1 }
 
 is_within : (t : Tm) → Within (nodes t) (levels t) → is_limited t ≡ true
-is_within t w = ap (λ b. b && nat_le (levels t) 1000) (le-leb (nodes t) 100000 w.nodes_fit) ∙ le-leb (levels t) 1000 w.levels_fits
+is_within t w = ap (λ b. b && nat_le (levels t) MAX_LEVELS) (le-leb (nodes t) MAX_NODES w.nodes_fit) ∙ le-leb (levels t) MAX_LEVELS w.levels_fits
 
 call-head : (takes : Takes) (f : Name) (d : Datum) (n : ℕ) → IsCalled f → is_list d ≡ true → items d ≡ n → takes f ≡ Some n → head takes f d ≡ Ok tt
 call-head takes f d n c l i k =

@@ -4,6 +4,7 @@ use Rattle.lisp_data.specs.Datum.{Datum, SymForm, PairForm, nil_form}
 use Rattle.lisp_reader.specs.Grammar.{book_of}
 use Rattle.lisp_reader.specs.Printed.{datum_of, value_text, nesting, IsPrintable}
 use Rattle.terms.specs.Terms.{Tm, Var, Quote, Call, Tms, Done, More}
+use Rattle.lisp_reader.specs.declared.limits.TheConstants.{MAX_BOOK, MAX_NESTING}
 
 -- a variable as it is, a quoted value behind a quote, and a call as a list: `x`, `'v`, `(f a b)`
 abbrev mutual
@@ -34,4 +35,4 @@ IsPrintableTerm t = IsPrintable (form_of_term t)
 
 -- the text of a term, as a book, is its form alone, if it keeps the limits of a book
 pub record IsTermAgain (t : Tm) : Type 0 where
-  pub read : nesting (form_of_term t) ≤ 200 → length (term_text t) ≤ 1048576 → book_of (term_text t) ≡ ((form_of_term t, 0) ∷ [], None)
+  pub read : nesting (form_of_term t) ≤ MAX_NESTING → length (term_text t) ≤ MAX_BOOK → book_of (term_text t) ≡ ((form_of_term t, 0) ∷ [], None)

@@ -14,6 +14,8 @@ use Rattle.terms.specs.Substitution.{by_pairs}
 use Rattle.terms.specs.Worlds.{is_in}
 use Rattle.term_forms.specs.Names.{is_constant_name, is_variable_name}
 use Rattle.term_forms.specs.Macros.{Macro, macro, is_number, if_of, nil_term}
+use Rattle.lisp_data.specs.declared.limits.TheConstants.{MAX_PAIRS, MAX_PATH}
+use Rattle.term_forms.specs.declared.limits.TheConstants.{MAX_LEVELS, MAX_NODES}
 
 -- how many arguments a name takes, where it may be called
 abbrev pub Takes : Type 0
@@ -55,7 +57,7 @@ abbrev mutual
 
 -- the limits of a translated term
 abbrev pub is_limited : Tm → Bool
-is_limited t = nat_le (nodes t) 100000 && nat_le (levels t) 1000
+is_limited t = nat_le (nodes t) MAX_NODES && nat_le (levels t) MAX_LEVELS
 
 abbrev pub limited : Tm → Outcome Tm
 limited t = if is_limited t then Ok t else too_large
@@ -70,7 +72,7 @@ atom scope s =
 
 -- the limits of a value
 abbrev pub is_small : Val → Bool
-is_small v = nat_le (path v) 4096 && nat_le (pairs v) 1000000
+is_small v = nat_le (path v) MAX_PATH && nat_le (pairs v) MAX_PAIRS
 
 abbrev pub quoted : Datum → Outcome Tm
 quoted form = if has_text form then bad_form else if is_small (value form) then Ok (Quote (value form)) else too_large

@@ -6,17 +6,12 @@ ghost use Rattle.terms.specs.Terms.{Var, Quote, Call, tms};
 ghost use Rattle.term_forms.specs.Translation.{limited, is_limited};
 ghost use Rattle.term_forms.specs.TranslationView.{SaysOutcome};
 
+use crate::limits::{MAX_LEVELS, MAX_NODES};
 use crate::translation::TermError;
 use lisp_data::{Code, Detail, Memory, Symbol, Value};
 use std::alloc::Global;
 use std::marker::Model;
 use terms::{Term, Terms};
-
-/// The most variables, quoted values and calls of a term.
-const MAX_NODES: u64 = 100_000;
-
-/// The most calls that lie within one another.
-const MAX_LEVELS: u64 = 1_000;
 
 /// A term within the limits, with its nodes and its levels of calls. Contracts see the term.
 pub(crate) struct Counted {
@@ -73,7 +68,7 @@ impl Counted {
     }
 
     /// A call of a name on these parts, where it is within the limits.
-    #[tactic(auto, using(crate::proofs::Limits::limits, terms::proofs::Args::args))]
+    #[tactic(auto, using(crate::proofs::Sizes::limits, terms::proofs::Args::args))]
     pub(crate) fn call(alloc: Global, name: Symbol, parts: &[Counted]) -> Result<Counted, TermError>
         ensures { SaysOutcome (limited (Call name (tms parts.now))) result }
     {
@@ -117,7 +112,7 @@ impl Counted {
     }
 
     /// What each one keeps: the limits.
-    #[tactic(auto, using(crate::proofs::Limits::limits))]
+    #[tactic(auto, using(crate::proofs::Sizes::limits))]
     pub(crate) fn keeps_limits(&self)
         ensures { limited self.now ≡ Ok self.now }
     {

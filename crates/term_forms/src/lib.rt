@@ -4,6 +4,7 @@
 mod bindings;
 mod clauses;
 mod counted;
+mod limits;
 mod macros;
 mod naming;
 mod print;
@@ -14,6 +15,7 @@ mod tests;
 mod translation;
 mod translation_laws;
 
+pub use limits::{MAX_LEVELS, MAX_NODES};
 pub use naming::{is_function_name, is_variable_name};
 pub use print::print_term;
 pub use scope::Scope;
