@@ -6,12 +6,14 @@ mod errors;
 mod evaluation;
 mod finds;
 mod laws;
+mod limits;
 mod machine;
 mod primitives;
 
 pub use errors::EvalError;
 pub use evaluation::evaluate;
 pub use laws::{counted_values_are_values, never_stuck};
+pub use limits::MAX_CALLS;
 
 #[cfg(test)]
 mod tests;

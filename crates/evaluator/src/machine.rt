@@ -13,6 +13,7 @@ ghost use Rattle.evaluator.specs.Machines as spec;
 use crate::callees::{Callee, Callees};
 use crate::errors::Halt;
 use crate::finds::Finds;
+use crate::limits::MAX_CALLS;
 use crate::primitives::{Truths, is_if, is_nil, perform};
 use lisp_data::{Symbol, Value};
 use std::alloc::Global;
@@ -343,7 +344,7 @@ pub(crate) fn run<D: Finds>(alloc: Global, world: &D, term: &Term) -> Result<Val
     let mut machine = Machine {
         frames: Vec::new(alloc),
         values: Vec::new(alloc),
-        calls: 1_000_000,
+        calls: MAX_CALLS,
         callees: Callees::new(alloc)?,
     };
     let mut control = Control::Evaluate(
