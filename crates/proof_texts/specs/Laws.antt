@@ -27,6 +27,7 @@ use Rattle.proof_texts.specs.declared.words.Kind.TheVariants as kind
 use Rattle.proof_texts.specs.declared.words.Word.{Word}
 use Rattle.proof_texts.specs.declared.steps.Part.{Part}
 use Rattle.proof_texts.specs.declared.steps.Part.TheVariants as part
+use Rattle.lisp_reader.specs.declared.limits.TheConstants.{MAX_BOOK, MAX_NESTING}
 
 -- each word is found by its text
 abbrev pub WordsAreFound : Type 0
@@ -117,7 +118,7 @@ abbrev mutual
 
 -- the text of a proof, as a book, is its form alone, which is that proof, if it keeps the limits of a book
 pub record IsProofAgain (W : World) (p : ProofTree) : Type 0 where
-  pub read : nesting (form_of_proof p) ≤ 200 → length (proof_text p) ≤ 1048576 → IsPrintable (form_of_proof p) → book_of (proof_text p) ≡ ((form_of_proof p, 0) ∷ [], None)
+  pub read : nesting (form_of_proof p) ≤ MAX_NESTING → length (proof_text p) ≤ MAX_BOOK → IsPrintable (form_of_proof p) → book_of (proof_text p) ≡ ((form_of_proof p, 0) ∷ [], None)
   pub proof : proof_of W (form_of_proof p) ≡ Ok p
 
 -- a proof of built rules that is well formed in the world, where no word of the syntax of terms is a function
