@@ -4,7 +4,6 @@
 mod callees;
 mod errors;
 mod evaluation;
-mod finds;
 mod laws;
 mod machine;
 mod primitives;
