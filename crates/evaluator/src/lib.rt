@@ -10,7 +10,7 @@ mod primitives;
 
 pub use errors::EvalError;
 pub use evaluation::evaluate;
-pub use laws::{counted_values_are_values, never_stuck};
+pub use laws::{counted_values_are_values, counted_values_stay, never_stuck};
 
 #[cfg(test)]
 mod tests;
