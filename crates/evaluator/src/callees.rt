@@ -4,11 +4,11 @@ ghost use Rattle.std.specs.Prelude.{◌<◌, List, IfOk};
 ghost use Rattle.terms.specs.declared.definition.Definition.{Definition};
 ghost use Rattle.evaluator.specs.Callees.{IsCallee, Knows};
 
-use crate::finds::Finds;
 use crate::primitives::{Primitive, find_primitive};
 use lisp_data::{Memory, Symbol};
 use std::alloc::Global;
 use terms::Definition;
+use worlds::World;
 
 const SLOTS: usize = 64;
 
@@ -45,8 +45,8 @@ fn slot_of(name: &Symbol) -> usize
 }
 
 /// What a name stands for, by a search.
-fn search<'a, D: Finds>(world: &'a D, name: &Symbol) -> Callee<'a>
-    ensures { IsCallee (D.defs world.now) name.now result }
+fn search<'a>(world: &'a World, name: &Symbol) -> Callee<'a>
+    ensures { IsCallee world.now.functions.defs name.now result }
 {
     if let Some(primitive) = find_primitive(name) {
         return Callee::Primitive(primitive);
@@ -67,10 +67,10 @@ impl<'a> Callees<'a> {
     }
 
     /// What a name stands for.
-    pub(crate) fn find<D: Finds>(&mut self, world: &'a D, name: &'a Symbol) -> Callee<'a>
-        requires { Knows (D.defs world.now) self.old }
-        ensures callee { IsCallee (D.defs world.now) name.now result }
-        ensures known { Knows (D.defs world.now) self.new }
+    pub(crate) fn find(&mut self, world: &'a World, name: &'a Symbol) -> Callee<'a>
+        requires { Knows world.now.functions.defs self.old }
+        ensures callee { IsCallee world.now.functions.defs name.now result }
+        ensures known { Knows world.now.functions.defs self.new }
     {
         let slot = slot_of(name);
         if let Some(known) = &self.slots[slot] {

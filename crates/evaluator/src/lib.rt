@@ -4,7 +4,6 @@
 mod callees;
 mod errors;
 mod evaluation;
-mod finds;
 mod laws;
 mod limits;
 mod machine;
@@ -12,7 +11,7 @@ mod primitives;
 
 pub use errors::EvalError;
 pub use evaluation::evaluate;
-pub use laws::{counted_values_are_values, never_stuck};
+pub use laws::{counted_values_are_values, counted_values_stay, never_stuck};
 pub use limits::MAX_CALLS;
 
 #[cfg(test)]

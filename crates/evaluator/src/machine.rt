@@ -12,12 +12,12 @@ ghost use Rattle.evaluator.specs.Machines as spec;
 
 use crate::callees::{Callee, Callees};
 use crate::errors::Halt;
-use crate::finds::Finds;
 use crate::limits::MAX_CALLS;
 use crate::primitives::{Truths, is_if, is_nil, perform};
 use lisp_data::{Symbol, Value};
 use std::alloc::Global;
 use terms::{Definition, Node, Term};
+use worlds::World;
 
 /// Where the values of variables lie: from a place of the stack on, in the order of the formals.
 #[derive(Clone, Copy)]
@@ -103,19 +103,19 @@ fn chosen<'a>(test: Value, yes: &'a Term, no: &'a Term) -> &'a Term
 
 impl<'a> Machine<'a> {
     /// Calls a function on the values from `start` on.
-    fn call<D: Finds>(
+    fn call(
         &mut self,
         alloc: Global,
-        world: &'a D,
+        world: &'a World,
         truths: &Truths,
         name: &'a Symbol,
         start: usize,
     ) -> Result<Control<'a>, Halt>
         requires stacked { spec.Stacked 0 self.old.frames.items start }
         requires start { start ≤ length self.old.values.items }
-        requires known { Knows (D.defs world.now) self.old.callees }
-        ensures goes { spec.Goes (D.defs world.now) (spec.whole (D.defs world.now) self.old (spec.act_of (D.defs world.now) name.now (drop start (spec.vals self.old)) self.old.calls)) (spec.effort (D.defs world.now) self.old 1) self.new result }
-        ensures known { Knows (D.defs world.now) self.new.callees }
+        requires known { Knows world.now.functions.defs self.old.callees }
+        ensures goes { spec.Goes world.now.functions.defs (spec.whole world.now.functions.defs self.old (spec.act_of world.now.functions.defs name.now (drop start (spec.vals self.old)) self.old.calls)) (spec.effort world.now.functions.defs self.old 1) self.new result }
+        ensures known { Knows world.now.functions.defs self.new.callees }
     {
         match self.callees.find(world, name) {
             Callee::Primitive(primitive) => {
@@ -174,10 +174,10 @@ impl<'a> Machine<'a> {
     }
 
     /// Goes on with the rest of a call's arguments, or calls.
-    fn proceed<D: Finds>(
+    fn proceed(
         &mut self,
         alloc: Global,
-        world: &'a D,
+        world: &'a World,
         truths: &Truths,
         name: &'a Symbol,
         rest: &'a [Term],
@@ -187,9 +187,9 @@ impl<'a> Machine<'a> {
         requires stacked { spec.Stacked 0 self.old.frames.items start }
         requires start { start ≤ length self.old.values.items }
         requires lies { spec.Lies scope (length self.old.values.items) }
-        requires known { Knows (D.defs world.now) self.old.callees }
-        ensures goes { spec.Goes (D.defs world.now) (spec.whole (D.defs world.now) self.old (gathered (spec.act_of (D.defs world.now) name.now) (drop start (spec.vals self.old)) (steps (spec.act_of (D.defs world.now)) (tms rest.now) (spec.env_of scope.entry (spec.vals self.old))) self.old.calls)) (spec.effort (D.defs world.now) self.old (1 + spec.weights (tms rest.now))) self.new result }
-        ensures known { Knows (D.defs world.now) self.new.callees }
+        requires known { Knows world.now.functions.defs self.old.callees }
+        ensures goes { spec.Goes world.now.functions.defs (spec.whole world.now.functions.defs self.old (gathered (spec.act_of world.now.functions.defs name.now) (drop start (spec.vals self.old)) (steps (spec.act_of world.now.functions.defs) (tms rest.now) (spec.env_of scope.entry (spec.vals self.old))) self.old.calls)) (spec.effort world.now.functions.defs self.old (1 + spec.weights (tms rest.now))) self.new result }
+        ensures known { Knows world.now.functions.defs self.new.callees }
     {
         let [first, rest @ ..] = rest else {
             return self.call(alloc, world, truths, name, start);
@@ -229,19 +229,19 @@ impl<'a> Machine<'a> {
     }
 
     /// Evaluates a term as far as to what it needs first.
-    fn evaluate<D: Finds>(
+    fn evaluate(
         &mut self,
         alloc: Global,
-        world: &'a D,
+        world: &'a World,
         truths: &Truths,
         term: &'a Term,
         scope: Scope<'a>,
     ) -> Result<Control<'a>, Halt>
         requires stacked { spec.Stacked 0 self.old.frames.items (length self.old.values.items) }
         requires lies { spec.Lies scope (length self.old.values.items) }
-        requires known { Knows (D.defs world.now) self.old.callees }
-        ensures goes { spec.Goes (D.defs world.now) (spec.whole (D.defs world.now) self.old (counted (spec.act_of (D.defs world.now)) term.now (spec.env_of scope.entry (spec.vals self.old)) self.old.calls)) (spec.effort (D.defs world.now) self.old (spec.weight term.now)) self.new result }
-        ensures known { Knows (D.defs world.now) self.new.callees }
+        requires known { Knows world.now.functions.defs self.old.callees }
+        ensures goes { spec.Goes world.now.functions.defs (spec.whole world.now.functions.defs self.old (counted (spec.act_of world.now.functions.defs) term.now (spec.env_of scope.entry (spec.vals self.old)) self.old.calls)) (spec.effort world.now.functions.defs self.old (spec.weight term.now)) self.new result }
+        ensures known { Knows world.now.functions.defs self.new.callees }
     {
         match term.node() {
             Node::Var(name) => {
@@ -265,10 +265,10 @@ impl<'a> Machine<'a> {
     }
 
     /// Goes on with what waited for a value.
-    fn resume<D: Finds>(
+    fn resume(
         &mut self,
         alloc: Global,
-        world: &'a D,
+        world: &'a World,
         truths: &Truths,
         frame: Frame<'a>,
         value: Value,
@@ -276,9 +276,9 @@ impl<'a> Machine<'a> {
         requires stacked { spec.Stacked 0 self.old.frames.items (spec.base frame) }
         requires inside { spec.Inside frame }
         requires height { spec.height frame ≤ length self.old.values.items }
-        requires known { Knows (D.defs world.now) self.old.callees }
-        ensures goes { spec.Goes (D.defs world.now) (spec.whole (D.defs world.now) self.old (spec.continue (spec.act_of (D.defs world.now)) (spec.waiting (spec.vals self.old) frame.entry) (val_of value) self.old.calls)) (spec.effort (D.defs world.now) self.old (spec.load frame.entry)) self.new result }
-        ensures known { Knows (D.defs world.now) self.new.callees }
+        requires known { Knows world.now.functions.defs self.old.callees }
+        ensures goes { spec.Goes world.now.functions.defs (spec.whole world.now.functions.defs self.old (spec.continue (spec.act_of world.now.functions.defs) (spec.waiting (spec.vals self.old) frame.entry) (val_of value) self.old.calls)) (spec.effort world.now.functions.defs self.old (spec.load frame.entry)) self.new result }
+        ensures known { Knows world.now.functions.defs self.new.callees }
     {
         match frame {
             Frame::Arguments {
@@ -305,18 +305,18 @@ impl<'a> Machine<'a> {
     }
 
     /// One turn.
-    fn turn<D: Finds>(
+    fn turn(
         &mut self,
         alloc: Global,
-        world: &'a D,
+        world: &'a World,
         truths: &Truths,
         control: Control<'a>,
     ) -> Result<Turn<'a>, Halt>
         requires stacked { spec.Stacked 0 self.old.frames.items (length self.old.values.items) }
         requires lies { spec.LiesIn control (length self.old.values.items) }
-        requires known { Knows (D.defs world.now) self.old.callees }
-        ensures goes { spec.Turns (D.defs world.now) (spec.whole (D.defs world.now) self.old (spec.now (D.defs world.now) control.entry (spec.vals self.old) self.old.calls)) (spec.effort (D.defs world.now) self.old (spec.weight_of control.entry)) self.new result }
-        ensures known { Knows (D.defs world.now) self.new.callees }
+        requires known { Knows world.now.functions.defs self.old.callees }
+        ensures goes { spec.Turns world.now.functions.defs (spec.whole world.now.functions.defs self.old (spec.now world.now.functions.defs control.entry (spec.vals self.old) self.old.calls)) (spec.effort world.now.functions.defs self.old (spec.weight_of control.entry)) self.new result }
+        ensures known { Knows world.now.functions.defs self.new.callees }
     {
         match control {
             Control::Evaluate(term, scope) => {
@@ -336,9 +336,9 @@ impl<'a> Machine<'a> {
     }
 }
 
-/// The value of a term, or why it has none.
-pub(crate) fn run<D: Finds>(alloc: Global, world: &D, term: &Term) -> Result<Value, Halt>
-    ensures { spec.Ends (evaluated (D.defs world.now) term.now) result }
+/// The value of a term in a world, or why it has none.
+pub(crate) fn run(alloc: Global, world: &World, term: &Term) -> Result<Value, Halt>
+    ensures { spec.Ends (evaluated world.now.functions.defs term.now) result }
 {
     let truths = Truths::new(alloc)?;
     let mut machine = Machine {

@@ -3,7 +3,8 @@ use Rattle.std.proofs.Common.{◌≡◌, ◌≢◌, List, [], ◌∷◌, length,
 use Rattle.terms.specs.Worlds.{World}
 use Rattle.proof_objects.specs.declared.step.Step.{Step}
 use Rattle.proof_objects.specs.declared.step.Step.TheVariants.{Hyp, Refl, Replace, Unfold, Eval, Substitute, IfTrue, IfFalse, Cases, Cut, Weaken, Contradict, Axiom, Ring, ImpliesIn, ImpliesOut, Universal, Discharge, Theorem, Instance, Induct}
-use Rattle.kernel.specs.Conclude.{conclude}
+use Rattle.lisp_data.specs.declared.code.Code.TheVariants.{ProofWrong}
+use Rattle.kernel.specs.Conclude.{conclude, code_of}
 use Rattle.kernel.specs.Conclusion.{Conclusion, sequents_of}
 use Rattle.terms.specs.declared.sequent.Sequent.{Sequent}
 
@@ -35,5 +36,10 @@ three_or_more W s [] a b c = absurd (a refl)
 three_or_more W s (x ∷ []) a b c = absurd (b refl)
 three_or_more W s (x ∷ y ∷ []) a b c = absurd (c refl)
 three_or_more W s (x ∷ y ∷ z ∷ cs) a b c = three W s x.sequent y.sequent z.sequent (sequents_of cs)
+
+-- a step with more concludes nothing, and no limit is the cause
+pub wrong_arms : (W : World) (s : Step) (cs : List Conclusion) → length cs ≢ 0 → length cs ≢ 1 → length cs ≢ 2 → (conclude W s (sequents_of cs) ≡ None) × (code_of W s (sequents_of cs) ≡ ProofWrong)
+wrong_arms W s [] a b c = absurd (a refl)
+wrong_arms W s (x ∷ cs) a b c = (three_or_more W s (x ∷ cs) a b c, refl)
 
 pub ruleset arms = three_or_more

@@ -37,6 +37,10 @@ module _ (F : Name → List Val → Val) (logical : Logical F) where
   pub refl_follows : (a : Tm) → Follows F (of_goal (equation a a))
   refl_follows a = record { holds = λ u env h. is_equation env a a refl }
 
+  -- a term that always has a value equals it
+  pub eval_follows : (a b : Tm) → ((env : Name → Val) → val F a env ≡ val F b env) → Follows F (of_goal (equation a b))
+  eval_follows a b same = record { holds = λ u env h. is_equation env a b (same env) }
+
   pub replace_follows : (p q : Sequent) (a b goal : Tm) (path : List ℕ) → Follows F p → Follows F q → p.goal ≡ equation a b → part_at path q.goal ≡ Some a → put_part path b q.goal ≡ Some goal → Follows F (joined p q goal)
   replace_follows p q a b goal path fp fq e at put = record {
     holds = λ u env h.

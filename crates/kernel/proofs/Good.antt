@@ -1,5 +1,5 @@
 -- What each rule concludes is well formed and follows under each interpretation, where its premises are and do.
-use Rattle.std.proofs.Common.{◌≡◌, ◌&&◌, not, is_some, ℕ, zero, suc, slice_get, true, refl, List, [], ◌∷◌, length, map, codes, Some, sym, ap, ◌∙◌, subst}
+use Rattle.std.proofs.Common.{◌≡◌, ◌&&◌, not, is_some, ℕ, zero, suc, slice_get, true, refl, List, [], ◌∷◌, length, map, codes, Some, None, sym, ap, ◌∙◌, subst}
 use Rattle.std.proofs.lemmas.Bool.{and_parts}
 use Rattle.std.specs.List.{list_all}
 use Rattle.lisp_data.specs.Values.{Name, Val}
@@ -9,11 +9,12 @@ use Rattle.terms.specs.Paths.{part_at, put_part}
 use Rattle.terms.specs.Definitions.{find, Interp}
 use Rattle.terms.specs.Worlds.{World, FitsSequent, Fits, IsIn, Each, TotalFor, IsTrueAt, Holds}
 use Rattle.terms.specs.BuiltIn.{implies_def}
-use Rattle.terms.specs.Sound.{Sound, iso_conditions}
+use Rattle.terms.specs.Measures.{obligations}
+use Rattle.terms.specs.Sound.{Sound, AllHold, iso_conditions}
 use Rattle.terms.specs.declared.definition.Definition.{Definition}
 use Rattle.terms.specs.declared.sequent.Sequent.{Sequent}
 use Rattle.terms.proofs.Below.{Any}
-use Rattle.terms.proofs.Models.{Model, model, vals, vals-length, is_if}
+use Rattle.terms.proofs.Models.{Model, model, vals, vals-length, is_if, reaches_one, reaches_val, eval_reaches}
 use Rattle.terms.proofs.Extend.{body_fits}
 use Rattle.terms.proofs.Meaning.{val_same, val_substitute, args_bound, arity_primitive, arity_defined, of_definition, true_from, true_to}
 use Rattle.terms.proofs.Later.{has_basics}
@@ -32,6 +33,11 @@ use Rattle.ring_laws.specs.Expressions.{is_arithmetic}
 use Rattle.ring_laws.specs.Limits.{excess_of}
 use Rattle.ring_laws.specs.Polynomials.{same_polynomial}
 use Rattle.ring_laws.proofs.Soundness.{ring_law, same_decides}
+use Rattle.evaluator.specs.Counted.{evaluated}
+use Rattle.evaluator.proofs.Values.{counted_law}
+use Rattle.kernel.specs.Evaluating.{is_ground, can_evaluate, value_of, computed}
+use Rattle.kernel.proofs.Evaluations.{gives_value, ground_fits}
+use Rattle.kernel.proofs.Owed.{each_found}
 use Rattle.kernel.specs.Axioms.{axiom_at, axiom_instance}
 use Rattle.kernel.specs.Ring.{ringed}
 use Rattle.kernel.specs.Facts.{item, fact_of}
@@ -49,14 +55,14 @@ each_with : (P Q : Tm → Type 0) (us : List Tm) → Each P us → Each Q us →
 each_with P Q [] h g = tt
 each_with P Q (u ∷ us) h g = ((h.0, g.0), each_with P Q us h.1 g.1)
 
+at : (P : Sequent → Type 0) (ss : List Sequent) (k : ℕ) (s : Sequent) → Each P ss → slice_get ss k ≡ Some s → P s
+at P [] k s h e = absurd (cc)
+at P (t ∷ ss) zero s h e = subst P (some_is e) h.0
+at P (t ∷ ss) (suc k) s h e = at P ss k s h.1 e
+
 at_item : (P : Sequent → Type 0) (ss : List Sequent) (k : ℕ) (s : Sequent) → Each P ss → item ss k ≡ Some s → P s
 at_item P ss zero s h e = absurd (cc)
-at_item P ss (suc k) s h e = at ss k h e
-  where
-    at : (ss : List Sequent) (k : ℕ) → Each P ss → slice_get ss k ≡ Some s → P s
-    at [] k h e = absurd (cc)
-    at (t ∷ ss) zero h e = subst P (some_is e) h.0
-    at (t ∷ ss) (suc k) h e = at ss k h.1 e
+at_item P ss (suc k) s h e = at P ss k s h e
 
 module _ (W : World) (sound : Sound W) where
   abbrev pub Fit : Tm → Type 0
@@ -339,11 +345,31 @@ module _ (W : World) (sound : Sound W) where
 
   pub good_fact_rule : (f : FactName) (s : Sequent) → fact_of W f ≡ Some s → Good s
   good_fact_rule (Theorem n) s e = let t = found W sound n s e in good_fact s t.fits t.holds
-  good_fact_rule (Measure f k) s e = absurd (cc)
+  good_fact_rule (Measure f k) s e =
+      let d = then_some (find W.functions.defs f) _ s e in
+      let h = at (λ s. FitsSequent W.functions s × Holds W.functions s) (obligations d.0) k s (each_found (λ d. AllHold W.functions (obligations d)) W.functions.defs sound.obligations f d.0 d.1) d.2 in
+      good_fact s h.0 h.1
   good_fact_rule (Isomorphism n k) s e =
       let i = then_some (find_iso W.isos n) _ s e in
       let h = at_item (λ s. FitsSequent W.functions s × Holds W.functions s) (iso_conditions i.0) k s (found_iso W sound n i.0 i.1) i.2 in
       good_fact s h.0 h.1
+
+  -- a term without variables has the value that evaluation gives, whatever values variables have
+  pub good_eval : (a : Tm) (s : Sequent) → computed W.functions a ≡ Some s → Good s
+  good_eval a s e =
+      let test = if_some (can_evaluate W.functions a) _ s e in
+      let p = and_parts (fits W.functions a) (is_ground a) test.0 in
+      let v = map_some (λ v. of_goal (equation a (Quote v))) (value_of (evaluated W.functions.defs a)) s test.1 in
+      let g = gives_value (evaluated W.functions.defs a) v.0 v.1 in
+      let f = fits_true W.functions a p.0 in
+      subst Good v.2 (record {
+        fit = alone_fits (equation a (Quote v.0)) (fit_equation a (Quote v.0) f tt);
+        follows = λ I tot. follow.eval_follows (Of I tot) (logical I tot) a (Quote v.0) (λ env.
+            let has = counted_law W.functions.defs a v.0 g.0 g.1 I in
+            reaches_one _ _ _
+            (reaches_val W.functions I (M I tot) (λ x. ⊥) (λ x. None) env (λ x p. absurd p) a (ground_fits W.functions a f p.1))
+            (eval_reaches has.0 W.functions.defs I a (λ x. None) v.0 has.1));
+      })
 
   pub good_ring : (a b : Tm) (s : Sequent) → ringed W.functions a b ≡ Some s → Good s
   good_ring a b s e =

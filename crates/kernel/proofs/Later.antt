@@ -3,7 +3,7 @@ use Rattle.std.proofs.Common.{◌≡◌, ◌&&◌, ℕ, Bool, true, false, cond,
 use Rattle.std.proofs.lemmas.Bool.{and_parts}
 use Rattle.std.specs.List.{list_all}
 use Rattle.std.specs.Option.{option_map}
-use Rattle.lisp_data.specs.Values.{Name}
+use Rattle.lisp_data.specs.Values.{Name, Val}
 use Rattle.terms.specs.Primitives.{Operation, primitive, lookup}
 use Rattle.terms.specs.Definitions.{find}
 use Rattle.terms.specs.Evaluation.{then_with}
@@ -26,6 +26,10 @@ use Rattle.kernel.specs.Fitting.{takes, fits, fit_all, pairs_fit}
 use Rattle.kernel.specs.Sequents.{negated_of}
 use Rattle.kernel.specs.Equations.{called, unfolded, if_false}
 use Rattle.kernel.specs.Logic.{by_cases, weakened, contradicted, instantiated}
+use Rattle.evaluator.specs.Counted.{evaluated}
+use Rattle.evaluator.proofs.Stay.{counted_values_stay}
+use Rattle.kernel.specs.Evaluating.{is_ground, can_evaluate, value_of, computed}
+use Rattle.kernel.proofs.Evaluations.{gives_value}
 use Rattle.kernel.specs.Facts.{fact_of}
 use Rattle.kernel.specs.Conclude.{from_none, from_one, from_two, conclude}
 use Rattle.kernel.specs.Concludes.{concludes, all_concluded}
@@ -229,8 +233,16 @@ module _ (W V : World) (sound : Sound V) (later : IsLater W V) where
 
   fact_later : (f : FactName) (t : Sequent) → fact_of W f ≡ Some t → fact_of V f ≡ Some t
   fact_later (fact.Theorem n) t e = theorem_later n t e
-  fact_later (fact.Measure f k) t e = absurd (cc)
+  fact_later (fact.Measure f k) t e = then_later (find F.defs f) (find G.defs f) _ _ t (find_later f) (λ d e'. e') e
   fact_later (fact.Isomorphism n k) t e = then_later (find_iso W.isos n) (find_iso V.isos n) _ _ t (iso_later n) (λ i e'. e') e
+
+  value_later : (a : Tm) (v : Val) → value_of (evaluated F.defs a) ≡ Some v → value_of (evaluated G.defs a) ≡ Some v
+  value_later a v e = let g = gives_value (evaluated F.defs a) v e in ap value_of (counted_values_stay F.defs G.defs find_later a v g.0 g.1)
+
+  eval_later : (a : Tm) (t : Sequent) → computed F a ≡ Some t → computed G a ≡ Some t
+  eval_later a t =
+      if_later (can_evaluate F a) (can_evaluate G a) _ _ t (and_later (fits F a) (is_ground a) (fits G a) (is_ground a) (fits_later a) (λ e. e))
+      (map_later _ (value_of (evaluated F.defs a)) (value_of (evaluated G.defs a)) t (value_later a))
 
   -- a line for each rule
   rule_later : (s : Step) (ps : List Sequent) (t : Sequent) → conclude W s ps ≡ Some t → conclude V s ps ≡ Some t
@@ -238,7 +250,7 @@ module _ (W V : World) (sound : Sound V) (later : IsLater W V) where
   rule_later (Refl a) ps t = none_later _ _ ps t (fit_later a _ t)
   rule_later (Replace path) ps t = λ e. e
   rule_later (Unfold a) ps t = none_later _ _ ps t (unfold_later a t)
-  rule_later (Eval a) ps t = λ e. absurd (cc)
+  rule_later (Eval a) ps t = none_later _ _ ps t (eval_later a t)
   rule_later (Substitute s) ps t = one_later _ _ ps t (λ p. put_later s _ t)
   rule_later (IfTrue b c) ps t = one_later _ _ ps t (λ p. both_later b c _ t)
   rule_later (IfFalse b c) ps t = one_later _ _ ps t (if_false_later b c t)

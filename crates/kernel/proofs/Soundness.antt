@@ -45,7 +45,7 @@ module _ (W : World) (sound : Sound W) where
   rule_good (Refl a) ps t g = none_gives Good _ ps t (good.good_refl W sound a t)
   rule_good (Replace path) ps t g = two_gives Good _ ps t g (λ p q. good.good_replace W sound path p q t)
   rule_good (Unfold a) ps t g = none_gives Good _ ps t (good.good_unfold W sound a t)
-  rule_good (Eval a) ps t g = λ e. absurd (cc)
+  rule_good (Eval a) ps t g = none_gives Good _ ps t (good.good_eval W sound a t)
   rule_good (Substitute s) ps t g = one_gives Good _ ps t g (λ p. good.good_substitute W sound s p t)
   rule_good (IfTrue b c) ps t g = one_gives Good _ ps t g (λ p. good.good_if_true W sound b c p t)
   rule_good (IfFalse b c) ps t g = one_gives Good _ ps t g (λ p. good.good_if_false W sound b c p t)

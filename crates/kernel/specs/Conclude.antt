@@ -11,6 +11,7 @@ use Rattle.kernel.specs.Logic.{hypothesis, substituted, by_cases, cut, weakened,
 use Rattle.kernel.specs.Axioms.{axiom_instance}
 use Rattle.kernel.specs.Facts.{fact_of}
 use Rattle.kernel.specs.Ring.{ringed, ring_code}
+use Rattle.kernel.specs.Evaluating.{computed, evaluation_code}
 
 -- how many subproofs a rule takes
 abbrev pub from_none : Option Sequent → List Sequent → Option Sequent
@@ -38,7 +39,7 @@ conclude W (Hyp p) = from_none (hypothesis W.functions p)
 conclude W (Refl a) = from_none (reflexive W.functions a)
 conclude W (Replace path) = from_two (replaced path)
 conclude W (Unfold t) = from_none (unfolded W.functions t)
-conclude W (Eval a) = not_built
+conclude W (Eval a) = from_none (computed W.functions a)
 conclude W (Substitute s) = from_one (substituted W.functions s)
 conclude W (IfTrue b c) = from_one (if_true W.functions b c)
 conclude W (IfFalse b c) = from_one (if_false W.functions b c)
@@ -59,6 +60,7 @@ conclude W (Induct m cases) = not_built
 -- the code of a step without subproofs that concludes nothing: that of a limit, where its rule computes and meets one
 abbrev pub code_alone : World → Step → Code
 code_alone W (Ring a b) = ring_code a b
+code_alone W (Eval a) = evaluation_code W.functions a
 code_alone W _ = ProofWrong
 
 -- the code of a step that concludes nothing from these sequents

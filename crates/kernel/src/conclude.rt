@@ -9,6 +9,7 @@ ghost use Rattle.kernel.specs.Answers.{SaysStep};
 use crate::axioms::axiom_instance;
 use crate::equations::{if_false, if_true, reflexive, replaced, unfolded};
 use crate::errors::RuleError;
+use crate::evaluating::computed;
 use crate::facts::fact_of;
 use crate::logic::{
     by_cases, contradicted, cut, detached, discharged, hypothesis, implied, instantiated,
@@ -46,6 +47,7 @@ fn from_none(alloc: Global, world: &World, step: &Step) -> Result<Sequent, RuleE
         Step::Hyp(p) => hypothesis(alloc, world, p),
         Step::Refl(a) => reflexive(alloc, world, a),
         Step::Unfold(call) => unfolded(alloc, world, call),
+        Step::Eval(a) => computed(alloc, world, a),
         Step::Axiom(number, s) => axiom_instance(alloc, world, *number, s),
         Step::Ring(a, b) => ringed(alloc, world, a, b),
         Step::Universal(u, s) => instantiated(alloc, world, u, s),

@@ -1,12 +1,15 @@
 //! What the rule on facts of the world concludes, as docs/KERNEL.md says.
 #![tactic(auto, unfolding(lisp_data::specs::SymbolText::is_symbol_text, lisp_data::specs::Atoms::leaf, lisp_data::specs::Atoms::in_atom, lisp_data::specs::Atoms::is_delimiter, lisp_data::specs::Atoms::is_sign))]
 
-ghost use Rattle.std.specs.Prelude.{◌≡◌, IfOk, IsSome, Some, codes};
-ghost use Rattle.terms.specs.Measures.{call1 as Call1};
+ghost use Rattle.std.specs.Prelude.{◌≡◌, IfOk, IsSome, Some, false, codes, length, slice_get};
+ghost use Rattle.terms.specs.Definitions.{find};
+ghost use Rattle.terms.specs.Measures.{call1 as Call1, is_nested, obligations};
 ghost use Rattle.terms.specs.Primitives.{lookup};
 ghost use Rattle.terms.specs.Sound.{iso_conditions, over_x};
 ghost use Rattle.terms.specs.Terms.{Var};
 ghost use Rattle.terms.specs.Evaluation.{then_with};
+ghost use Rattle.terms.specs.Worlds.{Distinct};
+ghost use Rattle.measures.specs.Calls.{CallsTake};
 ghost use Rattle.worlds.specs.Lookups.{find_iso};
 ghost use Rattle.kernel.specs.Facts.{fact_of, item};
 ghost use Rattle.kernel.specs.Answers.{SaysSequent};
@@ -14,17 +17,18 @@ ghost use Rattle.kernel.specs.Answers.{SaysSequent};
 use crate::connectives::equation;
 use crate::errors::RuleError;
 use lisp_data::{Memory, Seq, Symbol};
+use measures::{MeasureError, has_obligation, obligations};
 use std::alloc::Global;
-use terms::{FactName, Iso, Sequent, Term};
+use terms::{Definition, FactName, Iso, Sequent, Term};
 use worlds::World;
 
-/// Theorem: a theorem of the world, or a condition of one of its isomorphisms.
+/// Theorem: a theorem of the world, an obligation of one of its definitions, or a condition of one of its isomorphisms.
 pub(crate) fn fact_of(alloc: Global, world: &World, fact: &FactName) -> Result<Sequent, RuleError>
     ensures { SaysSequent (fact_of world.now fact.now) result }
 {
     match fact {
         FactName::Theorem(name) => theorem(alloc, world, name),
-        FactName::Measure(_, _) => Err(RuleError::Refused),
+        FactName::Measure(name, number) => obligation(alloc, world, name, *number),
         FactName::Isomorphism(name, number) => iso_condition(alloc, world, name, *number),
     }
 }
@@ -49,6 +53,45 @@ fn theorem(alloc: Global, world: &World, name: &Symbol) -> Result<Sequent, RuleE
     };
     let sequent = sequent.copy(alloc)?;
     Ok(sequent)
+}
+
+#[tactic(auto, using(crate::proofs::Owed::owed))]
+fn obligation(
+    alloc: Global,
+    world: &World,
+    name: &Symbol,
+    number: u32,
+) -> Result<Sequent, RuleError>
+    ensures { SaysSequent (then_with (find world.now.functions.defs name.now) (λ d. slice_get (obligations d) number)) result }
+{
+    let Some(definition) = world.find_definition(name) else {
+        return Err(RuleError::Refused);
+    };
+    if !has_obligation(definition, number) {
+        return Err(RuleError::Refused);
+    }
+    world.soundness();
+    let sequent = obligation_of(alloc, definition, number)?;
+    Ok(sequent)
+}
+
+/// The obligation of this number, from 0.
+fn obligation_of(alloc: Global, definition: &Definition, number: u32) -> Result<Sequent, Memory>
+    requires distinct { Distinct definition.now.formals }
+    requires arity { CallsTake definition.now.name (length definition.now.formals) definition.now.body }
+    requires flat { is_nested definition.now.name definition.now.body ≡ false }
+    requires owed { IsSome (slice_get (obligations definition.now) number) }
+    ensures { IfOk result (λ s. slice_get (obligations definition.now) number ≡ Some s) }
+{
+    let owed = match obligations(alloc, definition) {
+        Ok(owed) => owed,
+        Err(MeasureError::Memory) => return Err(Memory),
+        Err(MeasureError::Nested) | Err(MeasureError::NoMeasure) => unreachable!(),
+    };
+    match owed.as_slice().get(number as usize) {
+        Some(sequent) => sequent.copy(alloc),
+        None => unreachable!(),
+    }
 }
 
 fn iso_condition(

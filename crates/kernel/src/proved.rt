@@ -1,6 +1,6 @@
 //! Proved sequents, and the rules that make them.
 
-ghost use Rattle.std.specs.Prelude.{◌≡◌, ◌↔◌, [], ◌∷◌, IfOk, IsErrOf, None, Some};
+ghost use Rattle.std.specs.Prelude.{◌≡◌, ◌↔◌, [], ◌∷◌, IfOk, IsErrOf, None, Some, false};
 ghost use Rattle.terms.specs.Worlds.{FitsSequent, Holds};
 ghost use Rattle.proof_objects.specs.ProofTrees.{By, trees};
 ghost use Rattle.kernel.specs.Concludes.{concludes, all_concluded};
@@ -8,12 +8,14 @@ ghost use Rattle.kernel.specs.Conclude.{code_of};
 ghost use Rattle.kernel.specs.Conclusion.{IsProvedBy, alone, after, after_both, proofs_of, sequents_of, AllIn};
 ghost use Rattle.terms.specs.Later.{IsLater};
 ghost use Rattle.kernel.specs.Ring.{ring_code};
+ghost use Rattle.kernel.specs.Evaluating.{can_evaluate, evaluation_code};
 ghost use Rattle.kernel.specs.Answers.{IfLimit, IsWithinLimits};
 
 use crate::axioms::axiom_instance;
 use crate::conclude::conclude;
 use crate::equations::{if_false, if_true, reflexive, replaced, unfolded};
 use crate::errors::RuleError;
+use crate::evaluating::computed;
 use crate::facts::{fact_of, shared};
 use crate::laws::{proofs_stay, rules_are_sound};
 use crate::logic::{
@@ -123,6 +125,19 @@ impl Proved {
     {
         let sequent = unfolded(alloc, world, call)?;
         let step = Step::Unfold(call.share()?);
+        let proved = Proved::of(alloc, world, step, Seq::new(alloc), sequent)?;
+        Ok(proved)
+    }
+
+    /// Evaluate: a well-formed term without variables equals its value.
+    pub fn eval(alloc: Global, world: &World, a: &Term) -> Ruled
+        ensures ok { IfOk result (λ it. IsProvedBy it world.now (alone (Step.Eval a.now))) }
+        ensures refused { IsErrOf result RuleError.Refused ↔ (can_evaluate world.now.functions a.now ≡ false) }
+        ensures nothing { IsErrOf result RuleError.Refused → concludes world.now (alone (Step.Eval a.now)) ≡ None }
+        ensures limits { IfLimit result (λ code. (concludes world.now (alone (Step.Eval a.now)) ≡ None) × (code ≡ evaluation_code world.now.functions a.now)) }
+    {
+        let sequent = computed(alloc, world, a)?;
+        let step = Step::Eval(a.share()?);
         let proved = Proved::of(alloc, world, step, Seq::new(alloc), sequent)?;
         Ok(proved)
     }

@@ -6,7 +6,7 @@ ghost use Rattle.terms.specs.Terms.{Var};
 ghost use Rattle.terms.specs.Measures.{call1, call2};
 
 use super::*;
-use lisp_data::{Seq, Symbol};
+use lisp_data::{Code, Seq, Symbol, Value};
 use proof_objects::{Proof, Rule, Step};
 use std::alloc::Global;
 use std::test::Fail;
@@ -192,5 +192,60 @@ fn takes_an_axiom(rt: HostRuntime) -> Result<(), Fail> {
     assert!(rt; car.sequent().goal.same(&goal));
     let checked = check(alloc, &world, car.proof())?;
     assert!(rt; checked.sequent().goal.same(&goal));
+    Ok(())
+}
+
+fn number(alloc: Global, value: i128) -> Result<Term, Fail> {
+    let number = Term::quote(alloc, Value::Int(value))?;
+    Ok(number)
+}
+
+#[test]
+fn evaluates(rt: HostRuntime) -> Result<(), Fail> {
+    let alloc = rt.alloc();
+    let world = World::initial(alloc)?;
+    let sum = call_of_two(alloc, "BINARY-+", number(alloc, 2)?, number(alloc, 3)?)?;
+    let value = Proved::eval(alloc, &world, &sum)?;
+    let goal = call_of_two(alloc, "EQUAL", sum, number(alloc, 5)?)?;
+    assert!(rt; value.sequent().goal.same(&goal));
+    let checked = check(alloc, &world, value.proof())?;
+    assert!(rt; checked.sequent().goal.same(&goal));
+    let answer = Proved::eval(alloc, &world, &x(alloc)?).map(|_| ());
+    assert_eq!(rt; answer, Err(RuleError::Refused));
+    Ok(())
+}
+
+#[test]
+fn stays_in_a_later_world(rt: HostRuntime) -> Result<(), Fail> {
+    let alloc = rt.alloc();
+    let begin = World::initial(alloc)?;
+    let proved = Proved::refl(alloc, &begin, &x(alloc)?)?;
+    let world = begin.with_variable(alloc, Symbol::new(alloc, "?F")?, 1)?;
+    let later = proved.later(&world)?;
+    assert!(rt; later.sequent().goal.same(&proved.sequent().goal));
+    let call = call_of_one(alloc, "?F", number(alloc, 0)?)?;
+    let step = Step::Eval(call.share()?);
+    let answer = Proved::eval(alloc, &world, &call).map(|_| ());
+    assert_eq!(rt; answer, Err(RuleError::Limit(Code::HasFunctionVariables)));
+    let proof = Proof::new(alloc, step, Seq::new(alloc))?;
+    let expected = CheckError::Limit {
+        node: 1,
+        code: Code::HasFunctionVariables,
+    };
+    let answer = check(alloc, &world, &proof).map(|_| ());
+    assert_eq!(rt; answer, Err(expected));
+    Ok(())
+}
+
+#[test]
+fn cites_obligations(rt: HostRuntime) -> Result<(), Fail> {
+    let alloc = rt.alloc();
+    let world = World::initial(alloc)?;
+    let falls = FactName::Measure(Symbol::new(alloc, "LEN")?, 1);
+    let proved = Proved::theorem(alloc, &world, &falls)?;
+    assert_eq!(rt; proved.sequent().hyps.len(), 1);
+    let beyond = FactName::Measure(Symbol::new(alloc, "LEN")?, 2);
+    let answer = Proved::theorem(alloc, &world, &beyond).map(|_| ());
+    assert_eq!(rt; answer, Err(RuleError::Refused));
     Ok(())
 }

@@ -4,12 +4,14 @@
 
 mod calls;
 mod changes;
+mod counts;
 mod defaults;
 mod errors;
 mod owed;
 mod shapes;
 
 pub use calls::{RecursiveCall, RecursiveCalls, recursive_calls};
+pub use counts::has_obligation;
 pub use defaults::default_measure;
 pub use errors::MeasureError;
 pub use owed::{Sequents, obligations};

@@ -45,5 +45,6 @@ fn measures_a_function(rt: HostRuntime) -> Result<(), Fail> {
         measure: Some(measure),
     };
     assert_eq!(rt; obligations(alloc, &definition)?.len(), 2);
+    assert!(rt; has_obligation(&definition, 1) && !has_obligation(&definition, 2));
     Ok(())
 }

@@ -228,8 +228,6 @@ pub(crate) fn is_built(step: &Step) -> bool
     ensures { result ≡ spec.is_built step.now }
 {
     match step {
-        Step::Eval(_) => false,
-        Step::Theorem(FactName::Measure(_, _)) => false,
         Step::Instance(_, _) => false,
         Step::Induct(_, _) => false,
         _ => true,

@@ -57,13 +57,26 @@ fn text_of_one(alloc: Global, word: &str) -> Result<Form, Fail>
     Ok(Form::list(items))
 }
 
+/// `(:instance equal-same nil)`
+fn instance(alloc: Global) -> Result<Form, Fail>
+    ensures { IfOk result IsProper }
+{
+    let mut items = Forms::new(alloc);
+    items.push(symbol_form(alloc, ":instance")?)?;
+    items.push(symbol_form(alloc, "equal-same")?)?;
+    items.push(symbol_form(alloc, "nil")?)?;
+    Ok(Form::list(items))
+}
+
 #[test]
 fn reads_a_proof(rt: HostRuntime) -> Result<(), Fail> {
     let world = World::initial(rt.alloc())?;
-    let form = text_of_one(rt.alloc(), ":refl")?;
-    match read_proof(rt.alloc(), &world, &form) {
-        Ok(proof) => assert_eq!(rt; proof.node().step.rule(), Rule::Refl),
-        Err(_) => assert!(rt; false),
+    for (word, rule) in [(":refl", Rule::Refl), (":eval", Rule::Eval)] {
+        let form = text_of_one(rt.alloc(), word)?;
+        match read_proof(rt.alloc(), &world, &form) {
+            Ok(proof) => assert_eq!(rt; proof.node().step.rule(), rule),
+            Err(_) => assert!(rt; false),
+        }
     }
     Ok(())
 }
@@ -78,12 +91,15 @@ fn assert_refused(rt: &impl Abort, error: &ProofError, code: Code) {
 #[test]
 fn says_why_a_text_is_no_proof(rt: HostRuntime) -> Result<(), Fail> {
     let world = World::initial(rt.alloc())?;
-    for (word, code) in [(":eval", Code::NotAnEvent), (":replace", Code::BadForm)] {
-        let form = text_of_one(rt.alloc(), word)?;
-        match read_proof(rt.alloc(), &world, &form) {
-            Ok(_) => assert!(rt; false),
-            Err(error) => assert_refused(&rt, &error, code),
-        }
+    let unsupported = instance(rt.alloc())?;
+    match read_proof(rt.alloc(), &world, &unsupported) {
+        Ok(_) => assert!(rt; false),
+        Err(error) => assert_refused(&rt, &error, Code::NotAnEvent),
+    }
+    let short = text_of_one(rt.alloc(), ":replace")?;
+    match read_proof(rt.alloc(), &world, &short) {
+        Ok(_) => assert!(rt; false),
+        Err(error) => assert_refused(&rt, &error, Code::BadForm),
     }
     Ok(())
 }

@@ -7,8 +7,8 @@ use Rattle.evaluator.proofs.machine.run.Goals as goal
 
 pub loop-next-init : goal.loop-next-init
 unfolding evaluated
-loop-next-init g c =
-    let ds = g.D.Finds.defs c.args.world.now in
+loop-next-init c =
+    let ds = c.args.world.now.functions.defs in
     record {
       stands = record {
         stacked = subst (λ (fs : List Frame). Stacked 0 fs (length c.new-3.result.items)) (sym c.new-2.ensures.items) (omega arith);

@@ -4,10 +4,10 @@ use Rattle.evaluator.specs.Callees.{Knows}
 use Rattle.evaluator.proofs.machine.run.Given as goal
 
 abbrev pub invariant-loop-next : goal.invariant-loop-next
-invariant-loop-next g l = record {
-  stands : Stands (g.D.Finds.defs l.world) l.machine l.control (evaluated (g.D.Finds.defs l.world) l.term);
-  known : Knows (g.D.Finds.defs l.world) l.machine.callees;
+invariant-loop-next l = record {
+  stands : Stands l.world.functions.defs l.machine l.control (evaluated l.world.functions.defs l.term);
+  known : Knows l.world.functions.defs l.machine.callees;
 }
 
 abbrev pub decreases-loop-next : goal.decreases-loop-next
-decreases-loop-next g l = effort (g.D.Finds.defs l.world) l.machine (weight_of l.control)
+decreases-loop-next l = effort l.world.functions.defs l.machine (weight_of l.control)

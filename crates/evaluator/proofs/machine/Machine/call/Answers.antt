@@ -10,8 +10,8 @@ use Rattle.evaluator.proofs.machine.Machine.call.Goals as goal
 use Rattle.std.specs.Prelude.{length}
 
 pub returns-in-Ok-clause-goes : goal.returns-in-Ok-clause-goes
-returns-in-Ok-clause-goes g c =
-    let ds = g.D.Finds.defs c.args.world.now in
+returns-in-Ok-clause-goes c =
+    let ds = c.args.world.now.functions.defs in
     let m = c.args.self.now in
     let vs = drop c.args.start (vals m) in
     let found = rw c.in-Primitive.is at c.find.ensures.callee in
@@ -20,8 +20,8 @@ returns-in-Ok-clause-goes g c =
     (sym (performs_call ds c.args.name.now c.in-Primitive.primitive vs m.calls found ∙ ap (λ r. answered r m.calls) (ap (performs c.in-Primitive.primitive) (sym (slice_vals c.deref.result.now m.values.items c.args.start c.deref.ensures.value)) ∙ c.in-Ok.ensures))) (omega arith)
 
 pub returns-in-Err-clause-goes : goal.returns-in-Err-clause-goes
-returns-in-Err-clause-goes g c =
-    let ds = g.D.Finds.defs c.args.world.now in
+returns-in-Err-clause-goes c =
+    let ds = c.args.world.now.functions.defs in
     let m = c.args.self.now in
     let vs = drop c.args.start (vals m) in
     let found = rw c.in-Primitive.is at c.find.ensures.callee in
@@ -31,8 +31,8 @@ returns-in-Err-clause-goes g c =
     (refused _ (refusal c.in-Err.halt) m.calls c.in-Err.ensures))
 
 pub returns-in-Defined-clause-goes : goal.returns-in-Defined-clause-goes
-returns-in-Defined-clause-goes g c =
-    let ds = g.D.Finds.defs c.args.world.now in
+returns-in-Defined-clause-goes c =
+    let ds = c.args.world.now.functions.defs in
     let m = c.args.self.now in
     let f = c.args.name.now in
     let d = c.in-Defined.definition.now in
@@ -42,8 +42,8 @@ returns-in-Defined-clause-goes g c =
     (c.enter.ensures.goes ds (found_light ds f d found.1))
 
 pub returns-in_ok-share-in-Variable-clause-goes : goal.returns-in_ok-share-in-Variable-clause-goes
-returns-in_ok-share-in-Variable-clause-goes g c =
-    let ds = g.D.Finds.defs c.args.world.now in
+returns-in_ok-share-in-Variable-clause-goes c =
+    let ds = c.args.world.now.functions.defs in
     let m = c.args.self.now in
     let f = c.args.name.now in
     let vs = drop c.args.start (vals m) in

@@ -12,8 +12,8 @@ use Rattle.evaluator.proofs.Turns.{goes_on, goes_as, slice_vals, not_found}
 use Rattle.evaluator.proofs.machine.Machine.evaluate.Goals as goal
 
 pub returns-then-is_if-clause-goes : goal.returns-then-is_if-clause-goes
-returns-then-is_if-clause-goes g c =
-    let ds = g.D.Finds.defs c.args.world.now in
+returns-then-is_if-clause-goes c =
+    let ds = c.args.world.now.functions.defs in
     let m = c.args.self.now in
     let env = env_of c.args.scope (vals m) in
     let ts = c.in-Call.args in
@@ -27,8 +27,8 @@ returns-then-is_if-clause-goes g c =
     (c.choose.ensures.goes ds)
 
 pub returns-in-Ok-clause-goes : goal.returns-in-Ok-clause-goes
-returns-in-Ok-clause-goes g c =
-    let ds = g.D.Finds.defs c.args.world.now in
+returns-in-Ok-clause-goes c =
+    let ds = c.args.world.now.functions.defs in
     let m = c.args.self.now in
     let env = env_of c.args.scope (vals m) in
     let is : Var c.in-Var.name ≡ c.args.term.now = ap tm_of (sym c.in-Var.is) ∙ c.node.ensures in
@@ -38,8 +38,8 @@ returns-in-Ok-clause-goes g c =
     (omega (arith, ap weight is))
 
 pub returns-in-Err-clause-goes : goal.returns-in-Err-clause-goes
-returns-in-Err-clause-goes g c =
-    let ds = g.D.Finds.defs c.args.world.now in
+returns-in-Err-clause-goes c =
+    let ds = c.args.world.now.functions.defs in
     let m = c.args.self.now in
     let env = env_of c.args.scope (vals m) in
     let is : Var c.in-Var.name ≡ c.args.term.now = ap tm_of (sym c.in-Var.is) ∙ c.node.ensures in
@@ -50,8 +50,8 @@ returns-in-Err-clause-goes g c =
     (not_found (refusal c.in-Err.halt) _ m.calls c.in-Err.ensures))
 
 pub returns-else-is_if-clause-goes : goal.returns-else-is_if-clause-goes
-returns-else-is_if-clause-goes g c =
-    let ds = g.D.Finds.defs c.args.world.now in
+returns-else-is_if-clause-goes c =
+    let ds = c.args.world.now.functions.defs in
     let m = c.args.self.now in
     let env = env_of c.args.scope (vals m) in
     let ts = c.in-Call.args in

@@ -7,8 +7,8 @@ use Rattle.evaluator.proofs.Turns.{proceeds}
 use Rattle.evaluator.proofs.machine.Machine.proceed.Goals as goal
 
 pub returns-clause-goes : goal.returns-clause-goes
-returns-clause-goes g c =
-    let ds = g.D.Finds.defs c.args.world.now in
+returns-clause-goes c =
+    let ds = c.args.world.now.functions.defs in
     let m = c.args.self.now in
     let env = env_of c.args.scope (vals m) in
     let cut = take_all c.len-height.result (vals m) (omega (arith, c.len-height.ensures, length-map m.values.items val_of)) in

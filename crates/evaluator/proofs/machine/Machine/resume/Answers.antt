@@ -11,14 +11,14 @@ use Rattle.evaluator.proofs.Turns.{resumes, wakes, counted_cond, weight_cond}
 use Rattle.evaluator.proofs.machine.Machine.resume.Goals as goal
 
 pub proceed-requires-clause-stacked : goal.proceed-requires-clause-stacked
-proceed-requires-clause-stacked g c =
+proceed-requires-clause-stacked c =
     let m = c.args.self.now in
     let same : base c.args.frame ≡ c.in-Arguments.start = ap base c.in-Arguments.is in
     subst (λ b. Stacked 0 m.frames.items b) same c.requires.stacked
 
 pub returns-in_ok-push-in-Arguments-clause-goes : goal.returns-in_ok-push-in-Arguments-clause-goes
-returns-in_ok-push-in-Arguments-clause-goes g c =
-    let ds = g.D.Finds.defs c.args.world.now in
+returns-in_ok-push-in-Arguments-clause-goes c =
+    let ds = c.args.world.now.functions.defs in
     let m = c.args.self.now in
     let v = c.args.value in
     resumes ds m (record m { values = c.push.new.self }) c.proceed.new.self c.proceed.result c.args.frame _ (val_of v) c.in-Arguments.is tt refl refl
@@ -27,8 +27,8 @@ returns-in_ok-push-in-Arguments-clause-goes g c =
     c.requires.stacked c.requires.inside c.proceed.ensures.goes
 
 pub returns-in-Branches-clause-goes : goal.returns-in-Branches-clause-goes
-returns-in-Branches-clause-goes g c =
-    let ds = g.D.Finds.defs c.args.world.now in
+returns-in-Branches-clause-goes c =
+    let ds = c.args.world.now.functions.defs in
     let m = c.args.self.now in
     let v = val_of c.args.value in
     let hh = c.in-Branches.height in
