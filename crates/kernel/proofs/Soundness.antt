@@ -14,7 +14,7 @@ use Rattle.kernel.specs.Concludes.{concludes, all_concluded}
 use Rattle.kernel.specs.Laws.{AxiomsHold, ConclusionsFit, SoundRules}
 use Rattle.kernel.proofs.Inversions.{then_some, pairs_fit_each}
 use Rattle.kernel.proofs.Good as good
-use Rattle.kernel.proofs.Induction.{good_induct}
+use Rattle.kernel.proofs.InductionHolds.{good_induct}
 
 some_is : {A : Type 0} {x y : A} → Some x ≡ Some y → x ≡ y
 some_is q = cc

@@ -46,6 +46,7 @@ impl Drop for InductCase {
 
 impl InductCase {
     /// Whether the term is the induction hypothesis for the goal.
+    #[tactic(auto, using(crate::proofs::Cases::forms))]
     fn assumes(&self, goal: &Term, term: &Term) -> bool
         ensures { result ≡ same_tm (spec.assumption goal.now (case_of self.now)) term.now }
     {
@@ -98,6 +99,7 @@ pub(crate) fn induced(
 }
 
 /// Whether the sequent says that the measure is a natural number, from no hypothesis.
+#[tactic(auto, using(crate::proofs::Cases::forms))]
 fn says_natural(measure: &Term, natural: &Sequent) -> bool
     ensures { result ≡ spec.says_natural measure.now natural.now }
 {
@@ -111,7 +113,6 @@ fn says_natural(measure: &Term, natural: &Sequent) -> bool
 }
 
 /// Whether each hypothesis is the induction hypothesis of a case.
-#[tactic(auto, using(crate::proofs::Cases::cases))]
 fn all_assumed(base: &Sequent, cases: &[InductCase]) -> bool
     ensures { result ≡ spec.all_assumed base.now.goal (cases_of cases.now) base.now.hyps }
 {
@@ -125,7 +126,12 @@ fn all_assumed(base: &Sequent, cases: &[InductCase]) -> bool
 fn is_assumed(goal: &Term, cases: &[InductCase], hypothesis: &Term) -> bool
     ensures { result ≡ list_any (λ c. same_tm (spec.assumption goal.now c) hypothesis.now) (cases_of cases.now) }
 {
-    cases.iter().any(|case| case.assumes(goal, hypothesis))
+    for case in cases {
+        if case.assumes(goal, hypothesis) {
+            return true;
+        }
+    }
+    false
 }
 
 /// Whether the measure falls in each case.
@@ -133,10 +139,16 @@ fn is_assumed(goal: &Term, cases: &[InductCase], hypothesis: &Term) -> bool
 fn all_fall(world: &World, measure: &Term, cases: &[InductCase]) -> bool
     ensures { result ≡ spec.all_fall world.now.functions measure.now (cases_of cases.now) (sequents_of (falls_of cases.now)) }
 {
-    cases.iter().all(|case| case.is_smaller(world, measure))
+    for case in cases {
+        if !case.is_smaller(world, measure) {
+            return false;
+        }
+    }
+    true
 }
 
 /// Whether the term is `(< m' m)`, where m is the measure and m' it under the substitution.
+#[tactic(auto, using(crate::proofs::Cases::forms))]
 fn is_less(term: &Term, measure: &Term, s: &Subst) -> bool
     ensures { result ≡ same_tm (call2 (codes "<") (substitute (by_pairs s.now) measure.now) measure.now) term.now }
 {
