@@ -43,6 +43,11 @@ cases-next [] i d h = absurd (omega arith)
 cases-next (c ∷ cs) zero d h = refl
 cases-next (c ∷ cs) (suc i) d h = simp unary_clauses (simp unary_clauses at (cases-next cs i d (omega arith)))
 
+pub fall-next : (W : Functions) (m : Tm) (cs : List InductCase) (i : ℕ) (c : InductCase) → i < length cs → c ≡ get_or cs i c → (b : Bool) → b ≡ falls_in W m (case_of c) c.falls.sequent → all_fall W m (cases_of (drop i cs)) (sequents_of (falls_of (drop i cs))) ≡ (b && all_fall W m (cases_of (drop (i + 1) cs)) (sequents_of (falls_of (drop (i + 1) cs))))
+fall-next W m cs i c h e b f =
+    ap (λ xs. all_fall W m (cases_of xs) (sequents_of (falls_of xs))) (cases-next cs i c h)
+    ∙ ap (λ x. x && all_fall W m (cases_of (drop (i + 1) cs)) (sequents_of (falls_of (drop (i + 1) cs)))) (sym (f ∙ ap (λ c'. falls_in W m (case_of c') c'.falls.sequent) e))
+
 -- the cases up to the place i, and the one there
 pub cases-snoc : (xs : List InductCase) (c : InductCase) → cases_of (xs ++ c ∷ []) ≡ (cases_of xs ++ case_of c ∷ [])
 cases-snoc [] c = refl
