@@ -16,7 +16,7 @@ use Rattle.terms.proofs.Same.{same_term}
 use Rattle.proof_objects.specs.declared.step.InductionCase.{InductionCase}
 use Rattle.kernel.specs.Fitting.{fits, pairs_fit}
 use Rattle.kernel.specs.Logic.{is_empty}
-use Rattle.kernel.specs.Sequents.{join, implication}
+use Rattle.kernel.specs.Sequents.{join}
 use Rattle.kernel.specs.Induction.{says_natural, assumption, all_assumed, smaller, falls_in, all_fall, with_universals, induced}
 use Rattle.kernel.proofs.Inversions.{if_some}
 use Rattle.kernel.proofs.Joins.{join_parts, join_to}

@@ -107,7 +107,6 @@ abbrev pub is_built : Step → Bool
 is_built (step.Eval a) = false
 is_built (step.Theorem (fact.Measure f k)) = false
 is_built (step.Instance f ps) = false
-is_built (step.Induct m cs) = false
 is_built s = true
 
 -- and each step of the proof

@@ -231,7 +231,6 @@ pub(crate) fn is_built(step: &Step) -> bool
         Step::Eval(_) => false,
         Step::Theorem(FactName::Measure(_, _)) => false,
         Step::Instance(_, _) => false,
-        Step::Induct(_, _) => false,
         _ => true,
     }
 }

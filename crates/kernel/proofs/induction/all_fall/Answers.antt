@@ -1,4 +1,4 @@
-use Rattle.std.proofs.Common.{rules, ◌≡◌, ◌+◌, ◌&&◌, Bool, true, false, drop, sym, ap, ◌∙◌}
+use Rattle.std.proofs.Common.{rules, ◌≡◌, ◌+◌, ◌&&◌, true, false, drop, sym, ap, ◌∙◌}
 use Rattle.kernel.specs.Conclusion.{sequents_of}
 use Rattle.kernel.specs.InductCases.{cases_of, falls_of}
 use Rattle.kernel.specs.Induction.{all_fall}
