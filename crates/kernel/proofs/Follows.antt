@@ -55,7 +55,7 @@ module _ (F : Name → List Val → Val) (logical : Logical F) where
   moved : (s : Pairs) (env : Name → Val) (t : Tm) → Is F env (substitute (by_pairs s) t) → Is F (λ x. val F (by_pairs s x) env) t
   moved s env t h = record { so = λ e. h.so (val_substitute F (by_pairs s) env t ∙ e) }
 
-  moved_back : (s : Pairs) (env : Name → Val) (t : Tm) → Is F (λ x. val F (by_pairs s x) env) t → Is F env (substitute (by_pairs s) t)
+  pub moved_back : (s : Pairs) (env : Name → Val) (t : Tm) → Is F (λ x. val F (by_pairs s x) env) t → Is F env (substitute (by_pairs s) t)
   moved_back s env t h = record { so = λ e. h.so (sym (val_substitute F (by_pairs s) env t) ∙ e) }
 
   pub instance_follows : (s : Pairs) (p : Sequent) → Follows F p → Follows F (instance_of s p)

@@ -92,7 +92,7 @@ module _ (W : World) (sound : Sound W) where
   abbrev pub Of : (I : Interp) → TotalFor W.functions I → Name → List Val → Val
   Of I tot = let m = M I tot in m.of
 
-  logical : (I : Interp) (tot : TotalFor W.functions I) → Logical (Of I tot)
+  pub logical : (I : Interp) (tot : TotalFor W.functions I) → Logical (Of I tot)
   logical I tot = model_logical W.functions I (M I tot) sound.formed (has_basics W sound)
 
   -- well formed, and it follows under each interpretation

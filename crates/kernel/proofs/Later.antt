@@ -19,6 +19,7 @@ use Rattle.terms.specs.declared.sequent.Sequent.{Sequent}
 use Rattle.terms.proofs.Later.{vars_apart}
 use Rattle.terms.proofs.Names.{same_name}
 use Rattle.worlds.specs.Lookups.{find_iso}
+use Rattle.proof_objects.specs.declared.step.InductionCase.{InductionCase}
 use Rattle.proof_objects.specs.declared.step.Step.{Step}
 use Rattle.proof_objects.specs.declared.step.Step.TheVariants.{Hyp, Refl, Replace, Unfold, Eval, Substitute, IfTrue, IfFalse, Cases, Cut, Weaken, Contradict, Axiom, Ring, ImpliesIn, ImpliesOut, Universal, Discharge, Theorem, Instance, Induct}
 use Rattle.proof_objects.specs.ProofTrees.{ProofTree, By, Trees, NoMore, Also}
@@ -31,7 +32,8 @@ use Rattle.evaluator.proofs.Stay.{counted_values_stay}
 use Rattle.kernel.specs.Evaluating.{is_ground, can_evaluate, value_of, computed}
 use Rattle.kernel.proofs.Evaluations.{gives_value}
 use Rattle.kernel.specs.Facts.{fact_of}
-use Rattle.kernel.specs.Conclude.{from_none, from_one, from_two, conclude}
+use Rattle.kernel.specs.Induction.{says_natural, all_assumed, smaller, falls_in, all_fall, induced}
+use Rattle.kernel.specs.Conclude.{from_none, from_one, from_two, from_more, conclude}
 use Rattle.kernel.specs.Concludes.{concludes, all_concluded}
 use Rattle.terms.specs.Later.{IsLater}
 use Rattle.kernel.specs.Laws.{ProofsStay}
@@ -105,6 +107,11 @@ two_later k k' [] t f e = absurd (cc)
 two_later k k' (p ∷ []) t f e = absurd (cc)
 two_later k k' (p ∷ q ∷ []) t f e = f p q e
 two_later k k' (p ∷ q ∷ r ∷ ps) t f e = absurd (cc)
+
+more_later : (k k' : Sequent → Sequent → List Sequent → Option Sequent) (ps : List Sequent) (t : Sequent) → ((p q : Sequent) (rest : List Sequent) → k p q rest ≡ Some t → k' p q rest ≡ Some t) → from_more k ps ≡ Some t → from_more k' ps ≡ Some t
+more_later k k' [] t f e = absurd (cc)
+more_later k k' (p ∷ []) t f e = absurd (cc)
+more_later k k' (p ∷ q ∷ rest) t f e = f p q rest e
 
 module _ (W V : World) (sound : Sound V) (later : IsLater W V) where
   abbrev F : Functions
@@ -243,6 +250,24 @@ module _ (W V : World) (sound : Sound V) (later : IsLater W V) where
   eval_later a t =
       if_later (can_evaluate F a) (can_evaluate G a) _ _ t (and_later (fits F a) (is_ground a) (fits G a) (is_ground a) (fits_later a) (λ e. e))
       (map_later _ (value_of (evaluated F.defs a)) (value_of (evaluated G.defs a)) t (value_later a))
+  falls_later : (m : Tm) (c : InductionCase) (q : Sequent) → falls_in F m c q ≡ true → falls_in G m c q ≡ true
+  falls_later m c q =
+      let h = list_all (same_tm c.test) q.hyps in
+      let g = same_tm (smaller m c) q.goal in
+      and_later (fits F c.test && pairs_fit F c.subst && h) g (fits G c.test && pairs_fit G c.subst && h) g
+      (and_later (fits F c.test && pairs_fit F c.subst) h (fits G c.test && pairs_fit G c.subst) h
+      (and_later (fits F c.test) (pairs_fit F c.subst) (fits G c.test) (pairs_fit G c.subst) (fits_later c.test) (pairs_later c.subst)) (λ e. e)) (λ e. e)
+
+  all_fall_later : (m : Tm) (cs : List InductionCase) (qs : List Sequent) → all_fall F m cs qs ≡ true → all_fall G m cs qs ≡ true
+  all_fall_later m [] [] e = refl
+  all_fall_later m [] (q ∷ qs) e = absurd (cc)
+  all_fall_later m (c ∷ cs) [] e = absurd (cc)
+  all_fall_later m (c ∷ cs) (q ∷ qs) e = and_later (falls_in F m c q) (all_fall F m cs qs) (falls_in G m c q) (all_fall G m cs qs) (falls_later m c q) (all_fall_later m cs qs) e
+
+  induct_later : (m : Tm) (cs : List InductionCase) (t p b : Sequent) (qs : List Sequent) → induced F m cs p b qs ≡ Some t → induced G m cs p b qs ≡ Some t
+  induct_later m cs t p b qs =
+      let k = says_natural m p && all_assumed b.goal cs b.hyps in
+      if_later (k && all_fall F m cs qs) (k && all_fall G m cs qs) _ _ t (and_later k (all_fall F m cs qs) k (all_fall G m cs qs) (λ e. e) (all_fall_later m cs qs)) (λ e. e)
 
   -- a line for each rule
   rule_later : (s : Step) (ps : List Sequent) (t : Sequent) → conclude W s ps ≡ Some t → conclude V s ps ≡ Some t
@@ -266,7 +291,7 @@ module _ (W V : World) (sound : Sound V) (later : IsLater W V) where
   rule_later Discharge ps t = λ e. e
   rule_later (Theorem f) ps t = none_later _ _ ps t (fact_later f t)
   rule_later (Instance f pairs) ps t = λ e. absurd (cc)
-  rule_later (Induct m cases) ps t = λ e. absurd (cc)
+  rule_later (Induct m cases) ps t = more_later _ _ ps t (induct_later m cases t)
 
   both_with : (o o' : Option Sequent) (l l' : Option (List Sequent)) (ts : List Sequent) → ((t : Sequent) → o ≡ Some t → o' ≡ Some t) → ((us : List Sequent) → l ≡ Some us → l' ≡ Some us) → then_with o (λ s. then_with l (λ ss. Some (s ∷ ss))) ≡ Some ts → then_with o' (λ s. then_with l' (λ ss. Some (s ∷ ss))) ≡ Some ts
   both_with o o' l l' ts f g = then_later o o' _ _ ts f (λ s. then_later l l' _ _ ts g (λ ss e. e))

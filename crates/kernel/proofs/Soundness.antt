@@ -9,11 +9,12 @@ use Rattle.proof_objects.specs.declared.step.Step.{Step}
 use Rattle.proof_objects.specs.declared.step.Step.TheVariants.{Hyp, Refl, Replace, Unfold, Eval, Substitute, IfTrue, IfFalse, Cases, Cut, Weaken, Contradict, Axiom, Ring, ImpliesIn, ImpliesOut, Universal, Discharge, Theorem, Instance, Induct}
 use Rattle.proof_objects.specs.ProofTrees.{ProofTree, By, Trees, NoMore, Also}
 use Rattle.kernel.specs.Sequents.{of_goal}
-use Rattle.kernel.specs.Conclude.{from_none, from_one, from_two, conclude}
+use Rattle.kernel.specs.Conclude.{from_none, from_one, from_two, from_more, conclude}
 use Rattle.kernel.specs.Concludes.{concludes, all_concluded}
 use Rattle.kernel.specs.Laws.{AxiomsHold, ConclusionsFit, SoundRules}
 use Rattle.kernel.proofs.Inversions.{then_some, pairs_fit_each}
 use Rattle.kernel.proofs.Good as good
+use Rattle.kernel.proofs.InductionHolds.{good_induct}
 
 some_is : {A : Type 0} {x y : A} → Some x ≡ Some y → x ≡ y
 some_is q = cc
@@ -34,6 +35,11 @@ module _ (P : Sequent → Type 0) where
   two_gives k (p ∷ []) t g f e = absurd (cc)
   two_gives k (p ∷ q ∷ []) t g f e = f p q g.0 g.1.0 e
   two_gives k (p ∷ q ∷ r ∷ ps) t g f e = absurd (cc)
+
+  more_gives : (k : Sequent → Sequent → List Sequent → Option Sequent) (ps : List Sequent) (t : Sequent) → Each P ps → ((p q : Sequent) (rest : List Sequent) → P p → P q → Each P rest → k p q rest ≡ Some t → P t) → from_more k ps ≡ Some t → P t
+  more_gives k [] t g f e = absurd (cc)
+  more_gives k (p ∷ []) t g f e = absurd (cc)
+  more_gives k (p ∷ q ∷ rest) t g f e = f p q rest g.0 g.1.0 g.1.1 e
 
 module _ (W : World) (sound : Sound W) where
   abbrev Good : Sequent → Type 0
@@ -61,7 +67,7 @@ module _ (W : World) (sound : Sound W) where
   rule_good Discharge ps t g = two_gives Good _ ps t g (λ p q. good.good_discharge W sound p q t)
   rule_good (Theorem fact) ps t g = none_gives Good _ ps t (good.good_fact_rule W sound fact t)
   rule_good (Instance fact pairs) ps t g = λ e. absurd (cc)
-  rule_good (Induct m cases) ps t g = λ e. absurd (cc)
+  rule_good (Induct m cases) ps t g = more_gives Good _ ps t g (λ p q rest. good_induct W sound m cases p q rest t)
 
   mutual
     proof_good : (p : ProofTree) (t : Sequent) → concludes W p ≡ Some t → Good t

@@ -1,6 +1,6 @@
 -- Truth where each name has a total function, and the sequents that follow there.
-use Rattle.std.proofs.Common.{◌≡◌, ◌≢◌, true, List, [], ◌∷◌, codes, Some, refl}
-use Rattle.lisp_data.specs.Values.{Name, Val, nil, same_val}
+use Rattle.std.proofs.Common.{◌≡◌, ◌≢◌, ◌<◌, ℕ, true, List, [], ◌∷◌, pos, codes, Some, refl}
+use Rattle.lisp_data.specs.Values.{Name, Val, Int, nil, same_val}
 use Rattle.terms.specs.Primitives.{Two, primitive, primitives, truth, is_nil, choose}
 use Rattle.terms.specs.Terms.{Tm}
 use Rattle.terms.specs.Definitions.{Interp}
@@ -9,7 +9,7 @@ use Rattle.terms.specs.Formed.{AllFormed, HasBasics}
 use Rattle.terms.specs.declared.sequent.Sequent.{Sequent}
 use Rattle.terms.proofs.Models.{Model, val}
 use Rattle.terms.proofs.Meaning.{of_primitive, of_if}
-use Rattle.terms.proofs.Basics.{not_true, true_not, implies_true, true_implies}
+use Rattle.terms.proofs.Basics.{not_true, true_not, implies_true, true_implies, true_natp, true_less}
 
 module _ (F : Name → List Val → Val) where
   pub record Is (env : Name → Val) (t : Tm) : Type 0 where
@@ -30,6 +30,8 @@ module _ (F : Name → List Val → Val) where
     pub true_not : (x : Val) → F (codes "NOT") (x ∷ []) ≢ nil → x ≡ nil
     pub implies_true : (x y : Val) → (x ≢ nil → y ≢ nil) → F (codes "IMPLIES") (x ∷ y ∷ []) ≢ nil
     pub true_implies : (x y : Val) → F (codes "IMPLIES") (x ∷ y ∷ []) ≢ nil → x ≢ nil → y ≢ nil
+    pub true_natp : (x : Val) → F (codes "NATP") (x ∷ []) ≢ nil → (k : ℕ) × (x ≡ Int (pos k))
+    pub true_less : (a b : ℕ) → F (codes "<") (Int (pos a) ∷ Int (pos b) ∷ []) ≢ nil → a < b
 
 pub is_equal : primitive (codes "EQUAL") ≡ Some (Two (λ a b. truth (same_val a b)))
 unfolding primitive primitives
@@ -44,4 +46,6 @@ model_logical W I M formed basics = record {
   true_not = true_not W I M formed basics;
   implies_true = implies_true W I M formed basics;
   true_implies = true_implies W I M formed basics;
+  true_natp = true_natp W I M formed basics;
+  true_less = true_less W I M formed basics;
 }

@@ -8,6 +8,7 @@ use Rattle.proof_objects.specs.declared.step.Step.{Step}
 use Rattle.proof_objects.specs.declared.step.Step.TheVariants.{Hyp, Refl, Replace, Unfold, Eval, Substitute, IfTrue, IfFalse, Cases, Cut, Weaken, Contradict, Axiom, Ring, ImpliesIn, ImpliesOut, Universal, Discharge, Theorem, Instance, Induct}
 use Rattle.kernel.specs.Equations.{reflexive, replaced, unfolded, if_true, if_false}
 use Rattle.kernel.specs.Logic.{hypothesis, substituted, by_cases, cut, weakened, contradicted, implied, detached, instantiated, discharged}
+use Rattle.kernel.specs.Induction.{induced}
 use Rattle.kernel.specs.Axioms.{axiom_instance}
 use Rattle.kernel.specs.Facts.{fact_of}
 use Rattle.kernel.specs.Ring.{ringed, ring_code}
@@ -28,6 +29,11 @@ from_two k [] = None
 from_two k (p ∷ []) = None
 from_two k (p ∷ q ∷ []) = k p q
 from_two k (p ∷ q ∷ r ∷ ps) = None
+
+abbrev pub from_more : (Sequent → Sequent → List Sequent → Option Sequent) → List Sequent → Option Sequent
+from_more k [] = None
+from_more k (p ∷ []) = None
+from_more k (p ∷ q ∷ ps) = k p q ps
 
 -- a rule that no proof may use yet
 abbrev pub not_built : List Sequent → Option Sequent
@@ -55,7 +61,7 @@ conclude W (Universal u s) = from_none (instantiated W.functions u s)
 conclude W Discharge = from_two discharged
 conclude W (Theorem fact) = from_none (fact_of W fact)
 conclude W (Instance fact pairs) = not_built
-conclude W (Induct m cases) = not_built
+conclude W (Induct m cases) = from_more (induced W.functions m cases)
 
 -- the code of a step without subproofs that concludes nothing: that of a limit, where its rule computes and meets one
 abbrev pub code_alone : World → Step → Code

@@ -1,25 +1,27 @@
 //! What each step concludes from its premises: an arm for each rule.
 
-ghost use Rattle.std.specs.Prelude.{[], ◌∷◌};
+ghost use Rattle.std.specs.Prelude.{◌≢◌, [], ◌∷◌, length};
 ghost use Rattle.kernel.specs.Conclude.{conclude, code_alone, code_of};
 ghost use Rattle.lisp_data.specs.declared.code.Code.TheVariants.{ProofWrong as WrongProof};
 ghost use Rattle.kernel.specs.Conclusion.{sequents_of};
 ghost use Rattle.kernel.specs.Answers.{SaysStep};
+ghost use Rattle.kernel.specs.Induction.{induced};
 
 use crate::axioms::axiom_instance;
 use crate::equations::{if_false, if_true, reflexive, replaced, unfolded};
 use crate::errors::RuleError;
 use crate::evaluating::computed;
 use crate::facts::fact_of;
+use crate::induction::{induced, paired};
 use crate::logic::{
     by_cases, contradicted, cut, detached, discharged, hypothesis, implied, instantiated,
     substituted, weakened,
 };
 use crate::proved::Proved;
 use crate::ring::ringed;
-use proof_objects::Step;
+use proof_objects::{InductionCases, Step};
 use std::alloc::Global;
-use terms::Sequent;
+use terms::{Sequent, Term};
 use worlds::World;
 
 /// What a step concludes from the premises (docs/KERNEL.md).
@@ -36,7 +38,7 @@ pub(crate) fn conclude(
         [] => from_none(alloc, world, step),
         [p] => from_one(alloc, world, step, p.sequent()),
         [p, q] => from_two(alloc, world, step, p.sequent(), q.sequent()),
-        _ => Err(RuleError::Refused),
+        [p, q, rest @ ..] => from_more(alloc, world, step, p.sequent(), q.sequent(), rest),
     }
 }
 
@@ -85,6 +87,44 @@ fn from_two(
         Step::Contradict(goal) => contradicted(alloc, world, p, q, goal),
         Step::ImpliesOut => detached(alloc, p, q),
         Step::Discharge => discharged(alloc, p, q),
+        Step::Induct(measure, cases) => induction(alloc, world, measure, cases, p, q, &[]),
         _ => Err(RuleError::Refused),
     }
+}
+
+#[tactic(auto, using(crate::proofs::Arms::arms))]
+fn from_more(
+    alloc: Global,
+    world: &World,
+    step: &Step,
+    p: &Sequent,
+    q: &Sequent,
+    rest: &[Proved],
+) -> Result<Sequent, RuleError>
+    requires { length rest.now ≢ 0 }
+    ensures { SaysStep (conclude world.now step.now (p.now ∷ q.now ∷ sequents_of rest.now)) WrongProof result }
+{
+    match step {
+        Step::Induct(measure, cases) => induction(alloc, world, measure, cases, p, q, rest),
+        _ => Err(RuleError::Refused),
+    }
+}
+
+#[tactic(auto, using(crate::proofs::Cases::cases))]
+fn induction(
+    alloc: Global,
+    world: &World,
+    measure: &Term,
+    cases: &InductionCases,
+    natural: &Sequent,
+    base: &Sequent,
+    falls: &[Proved],
+) -> Result<Sequent, RuleError>
+    ensures { SaysStep (induced world.now.functions measure.now cases.now natural.now base.now (sequents_of falls.now)) WrongProof result }
+{
+    if cases.len() != falls.len() {
+        return Err(RuleError::Refused);
+    }
+    let cases = paired(alloc, cases.as_slice(), falls)?;
+    induced(alloc, world, measure, natural, base, cases.as_slice())
 }

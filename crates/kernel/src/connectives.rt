@@ -6,7 +6,8 @@ ghost use Rattle.std.specs.Option.{option_map, option_copied};
 ghost use Rattle.lisp_data.specs.SymbolText.{is_symbol_text};
 ghost use Rattle.terms.specs.Terms.{tms};
 ghost use Rattle.terms.specs.Measures.{call2 as Call2};
-ghost use Rattle.kernel.specs.Sequents.{equation, negation, implication, conditional, args_of, negated_of, sides_of};
+ghost use Rattle.kernel.specs.Sequents.{equation, negation, implication, conditional, args_of, one_of, negated_of, sides_of};
+ghost use Rattle.terms.specs.Evaluation.{then_with};
 
 use lisp_data::{Memory, Seq, Symbol};
 use std::alloc::Global;
@@ -85,6 +86,27 @@ pub(crate) fn implies_sides<'a>(term: &'a Term) -> Option<(&'a Term, &'a Term)>
     ensures { option_map (λ e. (e.0.now, e.1.now)) result ≡ sides_of (codes "IMPLIES") term.now }
 {
     sides_of("IMPLIES", term)
+}
+
+/// The two sides of a comparison.
+pub(crate) fn less_sides<'a>(term: &'a Term) -> Option<(&'a Term, &'a Term)>
+    ensures { option_map (λ e. (e.0.now, e.1.now)) result ≡ sides_of (codes "<") term.now }
+{
+    sides_of("<", term)
+}
+
+/// What is said to be a natural number.
+#[tactic(auto, using(crate::proofs::Args::parts))]
+pub(crate) fn natural_of<'a>(term: &'a Term) -> Option<&'a Term>
+    ensures { option_copied result ≡ then_with (args_of (codes "NATP") term.now) one_of }
+{
+    let Some(args) = args_of("NATP", term) else {
+        return None;
+    };
+    match args.as_slice() {
+        [natural] => Some(natural),
+        _ => None,
+    }
 }
 
 #[tactic(auto, using(crate::proofs::Args::parts))]

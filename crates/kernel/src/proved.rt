@@ -10,6 +10,7 @@ ghost use Rattle.terms.specs.Later.{IsLater};
 ghost use Rattle.kernel.specs.Ring.{ring_code};
 ghost use Rattle.kernel.specs.Evaluating.{can_evaluate, evaluation_code};
 ghost use Rattle.kernel.specs.Answers.{IfLimit, IsWithinLimits};
+ghost use Rattle.kernel.specs.InductCases.{by_induction, falls_of};
 
 use crate::axioms::axiom_instance;
 use crate::conclude::conclude;
@@ -17,6 +18,7 @@ use crate::equations::{if_false, if_true, reflexive, replaced, unfolded};
 use crate::errors::RuleError;
 use crate::evaluating::computed;
 use crate::facts::{fact_of, shared};
+use crate::induction::{InductCase, InductCases, cases_conclude, induced, step_cases};
 use crate::laws::{proofs_stay, rules_are_sound};
 use crate::logic::{
     by_cases, contradicted, cut, detached, discharged, hypothesis, implied, instantiated,
@@ -315,6 +317,31 @@ impl Proved {
         Ok(proved)
     }
 
+    /// Induction: `natural` says `(natp m)` of the measure m, `base` has its goal from induction hypotheses alone, and
+    /// in each case m falls.
+    pub fn induct(
+        alloc: Global,
+        measure: &Term,
+        natural: &Proved,
+        base: &Proved,
+        falls: &InductCases,
+    ) -> Ruled
+        requires base { natural.now.world ≡ base.now.world }
+        requires falls { AllIn natural.now.world (falls_of falls.now) }
+        ensures ok { IfOk result (λ it. IsProvedBy it natural.now.world (by_induction measure.now natural.now base.now falls.now)) }
+        ensures refused { IsErrOf result RuleError.Refused ↔ (concludes natural.now.world (by_induction measure.now natural.now base.now falls.now) ≡ None) }
+        ensures limits { IsWithinLimits result }
+    {
+        let cases = falls.as_slice();
+        cases_conclude(&natural.world, cases);
+        let (first, second) = (&natural.sequent, &base.sequent);
+        let sequent = induced(alloc, &natural.world, measure, first, second, cases)?;
+        let step = Step::Induct(measure.share()?, step_cases(alloc, cases)?);
+        let subproofs = case_proofs(alloc, natural, base, cases)?;
+        let proved = Proved::of(alloc, &natural.world, step, subproofs, sequent)?;
+        Ok(proved)
+    }
+
     /// What the step concludes, with its proof.
     fn of(
         alloc: Global,
@@ -441,5 +468,22 @@ fn both(alloc: Global, p: &Proved, q: &Proved) -> Result<Seq<Proof>, Memory>
     let mut proofs = Seq::new(alloc);
     proofs.push(p.proof.share()?)?;
     proofs.push(q.proof.share()?)?;
+    Ok(proofs)
+}
+
+/// The proofs of the measure, of the base and of the cases.
+#[tactic(auto, using(crate::proofs::Cases::cases))]
+fn case_proofs(
+    alloc: Global,
+    natural: &Proved,
+    base: &Proved,
+    cases: &[InductCase],
+) -> Result<Seq<Proof>, Memory>
+    ensures { IfOk result (λ ps. ps ≡ natural.now.proof ∷ base.now.proof ∷ proofs_of (falls_of cases.now)) }
+{
+    let mut proofs = both(alloc, natural, base)?;
+    for case in cases {
+        proofs.push(case.falls.proof.share()?)?;
+    }
     Ok(proofs)
 }

@@ -249,3 +249,55 @@ fn cites_obligations(rt: HostRuntime) -> Result<(), Fail> {
     assert_eq!(rt; answer, Err(RuleError::Refused));
     Ok(())
 }
+
+/// Where x is a pair, the count of its second part is less than that of x.
+fn second_part(alloc: Global, world: &World) -> Result<InductCase, Fail>
+    ensures { IfOk result (λ c. c.falls.world ≡ world.now) }
+{
+    let test = call_of_one(alloc, "CONSP", x(alloc)?)?;
+    let mut subst = Subst::new(alloc);
+    subst.push(
+        Symbol::new(alloc, "X")?,
+        call_of_one(alloc, "CDR", x(alloc)?)?,
+    )?;
+    let name = FactName::Theorem(Symbol::new(alloc, "ACL2-COUNT-CDR")?);
+    let implied = Proved::theorem(alloc, world, &name)?;
+    let held = Proved::hyp(alloc, world, &test)?;
+    let falls = Proved::implies_out(alloc, &implied, &held)?;
+    Ok(InductCase { test, subst, falls })
+}
+
+/// `(equal x x)` from the induction hypothesis of the case above.
+fn x_is_x_by_rest(alloc: Global, world: &World) -> Result<Proved, Fail>
+    ensures { IfOk result (λ p. p.world ≡ world.now) }
+{
+    let same = Proved::refl(alloc, world, &x(alloc)?)?;
+    let rest = call_of_one(alloc, "CDR", x(alloc)?)?;
+    let instance = call_of_two(alloc, "EQUAL", rest.share()?, rest)?;
+    let test = call_of_one(alloc, "CONSP", x(alloc)?)?;
+    let assumption = call_of_two(alloc, "IMPLIES", test, instance)?;
+    let hyps = one(alloc, assumption)?;
+    let base = Proved::weaken(alloc, &same, &hyps, &Seq::new(alloc))?;
+    Ok(base)
+}
+
+#[test]
+fn proves_by_induction(rt: HostRuntime) -> Result<(), Fail> {
+    let alloc = rt.alloc();
+    let world = World::initial(alloc)?;
+    let measure = call_of_one(alloc, "ACL2-COUNT", x(alloc)?)?;
+    let natural = Proved::axiom(alloc, &world, 33, &Subst::new(alloc))?;
+    let base = x_is_x_by_rest(alloc, &world)?;
+    let mut cases = Seq::new(alloc);
+    cases.push(second_part(alloc, &world)?)?;
+    let proved = Proved::induct(alloc, &measure, &natural, &base, &cases)?;
+    assert_eq!(rt; proved.sequent().hyps.len(), 0);
+    assert!(rt; proved.sequent().goal.same(&x_is_x(alloc)?));
+    let checked = check(alloc, &world, proved.proof())?;
+    assert!(rt; checked.sequent().goal.same(&x_is_x(alloc)?));
+
+    let no_cases = Seq::new(alloc);
+    let answer = Proved::induct(alloc, &measure, &natural, &base, &no_cases).map(|_| ());
+    assert_eq!(rt; answer, Err(RuleError::Refused));
+    Ok(())
+}

@@ -105,7 +105,6 @@ step_of (Rule rule.Induct) = of_two a_term some_cases step.Induct
 -- the rules take the step: who adds one of these takes its line away
 abbrev pub is_built : Step → Bool
 is_built (step.Instance f ps) = false
-is_built (step.Induct m cs) = false
 is_built s = true
 
 -- and each step of the proof

@@ -229,7 +229,6 @@ pub(crate) fn is_built(step: &Step) -> bool
 {
     match step {
         Step::Instance(_, _) => false,
-        Step::Induct(_, _) => false,
         _ => true,
     }
 }
