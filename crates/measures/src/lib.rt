@@ -13,6 +13,7 @@ pub use calls::{RecursiveCall, RecursiveCalls, recursive_calls};
 pub use defaults::default_measure;
 pub use errors::MeasureError;
 pub use owed::{Sequents, obligations};
+pub use shapes::{is_nested, mentions};
 
 #[cfg(test)]
 mod tests;
