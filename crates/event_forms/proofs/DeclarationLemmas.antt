@@ -1,12 +1,13 @@
 -- Declarations, one part at a time.
-use Rattle.std.proofs.Common.{◌≡◌, ◌∙◌, ℕ, zero, suc, ◌+◌, ◌<◌, false, ◌||◌, List, [], ◌∷◌, length, get_or, drop, map, Ok, ap, sym, arith}
+use Rattle.std.proofs.Common.{◌≡◌, ◌∙◌, ℕ, zero, suc, ◌+◌, ◌<◌, false, ◌||◌, List, [], ◌∷◌, length, get_or, drop, map, Some, None, Ok, ap, sym, arith}
 use native.Mathlib.Numerals.{unary_clauses}
 use Rattle.lisp_data.specs.Values.{Name}
+use Rattle.lisp_data.specs.Datum.{Datum}
 use Rattle.lisp_data.specs.FormView.{form_of}
 use Rattle.lisp_data.specs.declared.form.Form.{Form}
 use Rattle.term_forms.specs.Translation.{and_then}
 use Rattle.proof_texts.specs.Items.{items_of}
-use Rattle.event_forms.specs.Declarations.{before_body, body_of, declare_list, any_early, declares_unbuilt}
+use Rattle.event_forms.specs.Declarations.{before_body, body_of, declare_list, or_after, value_in, declared_value, any_early, declares_unbuilt}
 use Rattle.proof_texts.proofs.ItemLemmas.{proper_at}
 
 -- the forms from a place on begin with the form there
@@ -25,4 +26,15 @@ pub declares-step : (rest : List Form) (i : ℕ) (part next : Form) → i < leng
 declares-step rest i part next h e r =
     sym (ap (declares_unbuilt (form_of part)) (forms_from rest i next h e) ∙ ap (λ b. b || declares_unbuilt (form_of next) (map form_of (drop (i + 1) rest))) r)
 
-pub ruleset parts = (proper_at, body_of-step, declares-step)
+-- the value of a key, part by part
+pub value-there : (key : List ℕ) (rest : List Form) (i : ℕ) (part next : Form) (v : Datum) → i < length rest → next ≡ get_or rest i next → value_in key (declare_list (items_of (form_of part))) ≡ Some v →
+    declared_value key (form_of part) (map form_of (drop i rest)) ≡ Some v
+value-there key rest i part next v h e r =
+    ap (declared_value key (form_of part)) (forms_from rest i next h e) ∙ ap (λ o. or_after o (declared_value key (form_of next) (map form_of (drop (i + 1) rest)))) r
+
+pub value-step : (key : List ℕ) (rest : List Form) (i : ℕ) (part next : Form) → i < length rest → next ≡ get_or rest i next → value_in key (declare_list (items_of (form_of part))) ≡ None →
+    declared_value key (form_of next) (map form_of (drop (i + 1) rest)) ≡ declared_value key (form_of part) (map form_of (drop i rest))
+value-step key rest i part next h e r =
+    sym (ap (declared_value key (form_of part)) (forms_from rest i next h e) ∙ ap (λ o. or_after o (declared_value key (form_of next) (map form_of (drop (i + 1) rest)))) r)
+
+pub ruleset parts = (proper_at, body_of-step, declares-step, value-there, value-step)

@@ -1,12 +1,12 @@
 -- Declarations of functions.
-use Rattle.std.specs.Prelude.{Bool, true, false, ◌&&◌, ◌||◌, if◌then◌else◌, codes, is_some, List, [], ◌∷◌, Option, Some, None, Ok}
+use Rattle.std.specs.Prelude.{ℕ, Bool, true, false, ◌||◌, if◌then◌else◌, codes, is_some, List, [], ◌∷◌, Option, Some, None, Ok}
 use Rattle.std.specs.List.{list_all, list_any}
 use Rattle.lisp_data.specs.Values.{Name}
 use Rattle.lisp_data.specs.Datum.{Datum}
 use Rattle.term_forms.specs.Translation.{Outcome, and_then}
 use Rattle.proof_texts.specs.Items.{items_of, is_word, symbol_of, text_of}
 use Rattle.event_forms.specs.Refused.{bad_part}
-use Rattle.event_forms.specs.Keys.{keys, has_unbuilt}
+use Rattle.event_forms.specs.Keys.{keys, value_of, has_unbuilt}
 use Rattle.event_forms.specs.declared.keys.Keyed.TheVariants.{Function}
 
 abbrev pub is_symbol : Datum → Bool
@@ -44,11 +44,34 @@ abbrev pub body_of : List Name → Datum → List Datum → Outcome Datum
 body_of seen part [] = Ok part
 body_of seen part (p ∷ ps) = and_then (before_body seen part) (λ seen. body_of seen p ps)
 
--- a declared list of keys has one that isn't there yet
+-- the keys and values of `(xargs key value ..)`; another declaration has none
+abbrev pub xargs_of : Option (List Datum) → List Datum
+xargs_of None = []
+xargs_of (Some []) = []
+xargs_of (Some (word ∷ parts)) = if is_word (codes "XARGS") word then parts else []
+
+-- the first value that is there
+abbrev pub or_after : Option Datum → Option Datum → Option Datum
+or_after (Some v) o = Some v
+or_after None o = o
+
+-- the value of a key among declarations
+abbrev pub value_among : List ℕ → List Datum → Option Datum
+value_among key [] = None
+value_among key (d ∷ ds) = or_after (value_of key (xargs_of (items_of d))) (value_among key ds)
+
+abbrev pub value_in : List ℕ → Option (List Datum) → Option Datum
+value_in key None = None
+value_in key (Some ds) = value_among key ds
+
+-- the value of a key in the parts before the body
+abbrev pub declared_value : List ℕ → Datum → List Datum → Option Datum
+declared_value key part [] = None
+declared_value key part (p ∷ ps) = or_after (value_in key (declare_list (items_of part))) (declared_value key p ps)
+
+-- a declaration has a key that isn't there yet
 abbrev pub is_early : Option (List Datum) → Bool
-is_early None = false
-is_early (Some []) = false
-is_early (Some (word ∷ parts)) = is_word (codes "XARGS") word && has_unbuilt Function parts
+is_early items = has_unbuilt Function (xargs_of items)
 
 abbrev pub any_early : Option (List Datum) → Bool
 any_early None = false

@@ -1,4 +1,5 @@
 pub mod Refused
+pub mod Clauses
 pub mod Keys
 pub mod Declarations
 pub mod Shapes

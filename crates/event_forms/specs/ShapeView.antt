@@ -1,23 +1,40 @@
 -- What the code's events are seen as.
 use Rattle.std.specs.Prelude.{map, Option, option_map, IfSome}
 use Rattle.lisp_data.specs.FormView.{form_of, IsProper, AllProper}
+use Rattle.event_forms.specs.Clauses.{clauses_in}
 use Rattle.event_forms.specs.Shapes as spec
 use Rattle.event_forms.specs.declared.shapes.Event.{Event}
+use Rattle.event_forms.specs.declared.shapes.FunctionParts.{FunctionParts}
 use Rattle.event_forms.specs.declared.shapes.Event.TheVariants.{InPackage, IncludeBook, Defun, Defthm}
 
 -- what f gives of a part that may be left out
 abbrev pub if_given : {A B : Type 0} → Option A → (A → B) → Option B
 if_given part f = option_map f part
 
+abbrev pub function_seen : FunctionParts → spec.FunctionParts
+function_seen f = record {
+  name = f.name.now;
+  formals = map form_of f.formals.now;
+  body = form_of f.body.now;
+  measure = if_given f.measure (λ m. form_of m.now);
+  proofs = clauses_in (map form_of f.proofs.now);
+}
+
 abbrev pub seen : Event → spec.Event
 seen InPackage = spec.InPackage
 seen (IncludeBook book) = spec.IncludeBook book.now
-seen (Defun name formals body) = spec.Defun name.now (map form_of formals.now) (form_of body.now)
+seen (Defun function) = spec.Defun (function_seen function)
 seen (Defthm name formula proof) = spec.Defthm name.now (form_of formula.now) (if_given proof (λ p. form_of p.now))
 
 -- the forms in it are proper
+pub record IsProperFunction (f : FunctionParts) : Type 0 where
+  pub formals : AllProper f.formals.now
+  pub body : IsProper f.body.now
+  pub measure : IfSome f.measure (λ m. IsProper m.now)
+  pub proofs : AllProper f.proofs.now
+
 abbrev pub HasProperParts : Event → Type 0
 HasProperParts InPackage = Unit {0}
 HasProperParts (IncludeBook book) = Unit {0}
-HasProperParts (Defun name formals body) = AllProper formals.now × IsProper body.now
+HasProperParts (Defun function) = IsProperFunction function
 HasProperParts (Defthm name formula proof) = IsProper formula.now × IfSome proof (λ p. IsProper p.now)

@@ -7,14 +7,23 @@ use Rattle.term_forms.specs.Translation.{Outcome, and_then, map_outcome}
 use Rattle.proof_texts.specs.Items.{items_of, is_word, symbol_of, text_of}
 use Rattle.event_forms.specs.Refused.{not_an_event, bad_part, unknown_book, or_refused}
 use Rattle.event_forms.specs.Keys.{keys, value_of, has_unbuilt}
-use Rattle.event_forms.specs.Declarations.{body_of, declares_unbuilt}
+use Rattle.event_forms.specs.Clauses.{given_clauses}
+use Rattle.event_forms.specs.Declarations.{body_of, declared_value, declares_unbuilt}
 use Rattle.event_forms.specs.declared.keys.Keyed.TheVariants.{Theorem, Book}
 
--- An event's parts: of a function its name, formals and body, of a theorem its name, its formula and its proof, if it has one.
+-- A function's parts: its name, its formals, its body, its measure, if one is given, and the proofs of its conditions by their names.
+pub record FunctionParts : Type 0 where
+  pub name : Name
+  pub formals : List Datum
+  pub body : Datum
+  pub measure : Option Datum
+  pub proofs : List (Name × Datum)
+
+-- An event's parts: of a theorem its name, its formula and its proof, if it has one.
 pub data Event : Type 0 where
   InPackage : Event
   IncludeBook : (book : List ℕ) → Event
-  Defun : (name : Name) (formals : List Datum) (body : Datum) → Event
+  Defun : (function : FunctionParts) → Event
   Defthm : (name : Name) (formula : Datum) (proof : Option Datum) → Event
 
 -- the books that may be included
@@ -49,11 +58,21 @@ name_of form = or_refused (bad_part (codes "name")) (symbol_of form)
 abbrev pub formals_of : Datum → Outcome (List Datum)
 formals_of form = or_refused (bad_part (codes "formals")) (items_of form)
 
+-- a function of these formals and this body, by its parts behind the formals
+abbrev pub function_parts : Name → List Datum → Datum → List Datum → Datum → FunctionParts
+function_parts f xs p ps body = record {
+  name = f;
+  formals = xs;
+  body = body;
+  measure = declared_value (codes ":MEASURE") p ps;
+  proofs = given_clauses (declared_value (codes ":PROOF") p ps);
+}
+
 -- `(defun f (x ..) part .. body)`, from the formals on
 abbrev pub defun_after : Name → List Datum → Outcome Event
 defun_after f [] = bad_part (codes "arguments")
 defun_after f (xs ∷ []) = and_then (formals_of xs) (λ xs. bad_part (codes "arguments"))
-defun_after f (xs ∷ p ∷ ps) = and_then (formals_of xs) (λ xs. map_outcome (Defun f xs) (body_of [] p ps))
+defun_after f (xs ∷ p ∷ ps) = and_then (formals_of xs) (λ xs. map_outcome (λ body. Defun (function_parts f xs p ps body)) (body_of [] p ps))
 
 abbrev pub defun_of : List Datum → Outcome Event
 defun_of [] = bad_part (codes "arguments")

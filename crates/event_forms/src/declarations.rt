@@ -9,7 +9,7 @@ ghost use Rattle.event_forms.specs.Declarations as spec;
 ghost use Rattle.event_forms.specs.Refused.{Says};
 
 use crate::errors::EventError;
-use crate::keys::{Keyed, has_unbuilt, read_keys};
+use crate::keys::{Keyed, has_unbuilt, read_keys, value_of};
 use lisp_data::{Form, Symbols};
 use proof_texts::{is_word, items, symbol, text};
 use std::alloc::Global;
@@ -120,15 +120,79 @@ pub(crate) fn body<'a>(
     Ok(part)
 }
 
+/// The keys and values of `(xargs key value ..)`; another declaration has none.
+fn xargs(declaration: &Form) -> &[Form]
+    requires { IsProper declaration.now }
+    ensures value { map form_of result.now ≡ spec.xargs_of (lists.items_of (form_of declaration.now)) }
+    ensures proper { AllProper result.now }
+{
+    match items(declaration) {
+        Some([word, parts @ ..]) => {
+            if is_word(word, "XARGS") {
+                parts
+            } else {
+                &[]
+            }
+        }
+        _ => &[],
+    }
+}
+
+/// The value of a key among declarations.
+#[tactic(auto, using(proof_texts::proofs::ItemLemmas::proper_at))]
+fn value_among<'a>(key: &str, declarations: &'a [Form]) -> Option<&'a Form>
+    requires { AllProper declarations.now }
+    ensures value { option_map form_of (option_copied result) ≡ spec.value_among key.now (map form_of declarations.now) }
+    ensures proper { IfSome result (λ form. IsProper form.now) }
+{
+    for declaration in declarations {
+        if let Some(value) = value_of(key, xargs(declaration)) {
+            return Some(value);
+        }
+    }
+    None
+}
+
+/// The value of a key in a part before the body.
+fn value_in<'a>(key: &str, part: &'a Form) -> Option<&'a Form>
+    requires { IsProper part.now }
+    ensures value { option_map form_of (option_copied result) ≡ spec.value_in key.now (spec.declare_list (lists.items_of (form_of part.now))) }
+    ensures proper { IfSome result (λ form. IsProper form.now) }
+{
+    match declarations(part) {
+        Some(declarations) => value_among(key, declarations),
+        None => None,
+    }
+}
+
+/// The value of a key in the parts before the body.
+#[tactic(auto, using(crate::proofs::DeclarationLemmas::parts))]
+pub(crate) fn declared_value<'a>(
+    key: &str,
+    first: &'a Form,
+    rest: &'a [Form],
+) -> Option<&'a Form>
+    requires first { IsProper first.now }
+    requires rest { AllProper rest.now }
+    ensures value { option_map form_of (option_copied result) ≡ spec.declared_value key.now (form_of first.now) (map form_of rest.now) }
+    ensures proper { IfSome result (λ form. IsProper form.now) }
+{
+    let mut part = first;
+    for next in rest {
+        if let Some(value) = value_in(key, part) {
+            return Some(value);
+        }
+        part = next;
+    }
+    None
+}
+
 /// Whether a declaration has a key that isn't there yet.
 fn is_early(declaration: &Form) -> bool
     requires { IsProper declaration.now }
     ensures { result ≡ spec.is_early (lists.items_of (form_of declaration.now)) }
 {
-    match items(declaration) {
-        Some([word, parts @ ..]) => is_word(word, "XARGS") && has_unbuilt(Keyed::Function, parts),
-        _ => false,
-    }
+    has_unbuilt(Keyed::Function, xargs(declaration))
 }
 
 #[tactic(auto, using(proof_texts::proofs::ItemLemmas::proper_at))]

@@ -1,6 +1,6 @@
 //! Keys with their values.
 
-ghost use Rattle.std.specs.Prelude.{◌≡◌, true, map, option_map, IfSome};
+ghost use Rattle.std.specs.Prelude.{◌≡◌, true, map, option_map, IfOk, IfSome};
 ghost use Rattle.std.specs.Option.{option_copied};
 ghost use Rattle.lisp_data.specs.FormView.{form_of, IsProper, AllProper};
 ghost use Rattle.terms.specs.Worlds.{is_in};
@@ -8,8 +8,9 @@ ghost use Rattle.proof_texts.specs.Items as lists;
 ghost use Rattle.event_forms.specs.Keys as spec;
 ghost use Rattle.event_forms.specs.Refused.{Says};
 
+use crate::clauses::are_clauses;
 use crate::errors::EventError;
-use lisp_data::{Form, Symbol, Symbols};
+use lisp_data::{Form, Memory, Symbol, Symbols};
 use proof_texts::{contains, is_among, is_word, symbol};
 use std::alloc::Global;
 
@@ -27,7 +28,9 @@ impl Keyed {
         ensures { result ≡ is_in (spec.known_keys self) key.now }
     {
         let known = match self {
-            Keyed::Function => [":GUARD", ":VERIFY-GUARDS", ":GUARD-HINTS"].as_slice(),
+            Keyed::Function => {
+                [":GUARD", ":VERIFY-GUARDS", ":GUARD-HINTS", ":MEASURE", ":PROOF"].as_slice()
+            }
             Keyed::Theorem => [":RULE-CLASSES", ":PROOF"].as_slice(),
             Keyed::Book => [":DIR"].as_slice(),
         };
@@ -44,13 +47,21 @@ impl Keyed {
         }
     }
 
-    fn takes(self, value: &Form) -> bool
+    /// Whether a key may have the value.
+    fn takes(self, alloc: Global, key: &str, value: &Form) -> Result<bool, Memory>
         requires { IsProper value.now }
-        ensures { result ≡ spec.is_value self (form_of value.now) }
+        ensures { IfOk result (λ b. b ≡ spec.is_value self key.now (form_of value.now)) }
     {
         match self {
-            Keyed::Function | Keyed::Theorem => true,
-            Keyed::Book => is_word(value, ":SYSTEM"),
+            Keyed::Function => {
+                if key == ":PROOF" {
+                    are_clauses(alloc, value)
+                } else {
+                    Ok(true)
+                }
+            }
+            Keyed::Theorem => Ok(true),
+            Keyed::Book => Ok(is_word(value, ":SYSTEM")),
         }
     }
 
@@ -60,9 +71,7 @@ impl Keyed {
         ensures { result ≡ spec.is_unbuilt self (form_of key.now) }
     {
         match self {
-            Keyed::Function => {
-                is_word(key, ":MEASURE") || is_word(key, ":HOW") || is_word(key, ":PROOF")
-            }
+            Keyed::Function => is_word(key, ":HOW"),
             Keyed::Theorem => is_word(key, ":HOW") || is_word(key, ":ASSUMING"),
             Keyed::Book => false,
         }
@@ -115,7 +124,7 @@ fn with_key(
     ensures { Says (λ keys. keys) (spec.with_key kind seen (form_of key.now) (form_of value.now)) result }
 {
     let key = further_key(alloc, kind, &seen, key)?;
-    if !kind.takes(value) {
+    if !kind.takes(alloc, key.text(), value)? {
         return Err(EventError::bad_key(key));
     }
     seen.push(key.share()?)?;

@@ -1,6 +1,7 @@
 //! The forms of events: their shapes.
 #![tactic(auto)]
 
+mod clauses;
 mod declarations;
 mod errors;
 mod keys;
@@ -8,6 +9,7 @@ mod shapes;
 #[cfg(test)]
 mod tests;
 
+pub use clauses::clause;
 pub use errors::EventError;
 pub use keys::Keyed;
-pub use shapes::{Event, read_event};
+pub use shapes::{Event, FunctionParts, read_event};

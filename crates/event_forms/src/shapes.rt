@@ -7,12 +7,25 @@ ghost use Rattle.event_forms.specs.Shapes as spec;
 ghost use Rattle.event_forms.specs.Refused.{Says};
 ghost use Rattle.event_forms.specs.ShapeView.{seen, HasProperParts};
 
-use crate::declarations::{body, declares_unbuilt};
+use crate::clauses::given_clauses;
+use crate::declarations::{body, declared_value, declares_unbuilt};
 use crate::errors::EventError;
 use crate::keys::{Keyed, has_unbuilt, read_keys, value_of};
 use lisp_data::{Form, Symbol, Symbols};
 use proof_texts::{is_among, is_word, items, symbol, text};
 use std::alloc::Global;
+
+/// The parts of a function.
+#[derive(Clone, Copy)]
+pub struct FunctionParts<'a> {
+    pub name: &'a Symbol,
+    pub formals: &'a [Form],
+    pub body: &'a Form,
+    /// The measure, if one is given.
+    pub measure: Option<&'a Form>,
+    /// The clauses that prove its conditions, each of another condition.
+    pub proofs: &'a [Form],
+}
 
 /// The parts of an event.
 #[derive(Clone, Copy)]
@@ -20,8 +33,7 @@ pub enum Event<'a> {
     InPackage,
     /// The name of the book.
     IncludeBook(&'a [u8]),
-    /// A function: its name, its formals and its body.
-    Defun(&'a Symbol, &'a [Form], &'a Form),
+    Defun(FunctionParts<'a>),
     /// A theorem: its name, its formula and its proof, if it has one.
     Defthm(&'a Symbol, &'a Form, Option<&'a Form>),
 }
@@ -171,7 +183,13 @@ fn defun_after<'a>(
         return Err(EventError::bad_part(alloc, "arguments"));
     };
     let body = body(alloc, first, rest)?;
-    Ok(Event::Defun(name, formals, body))
+    Ok(Event::Defun(FunctionParts {
+        name,
+        formals,
+        body,
+        measure: declared_value(":MEASURE", first, rest),
+        proofs: given_clauses(declared_value(":PROOF", first, rest)),
+    }))
 }
 
 /// `(defthm n formula key value ..)`.

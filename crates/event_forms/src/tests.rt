@@ -109,10 +109,12 @@ fn reads_a_function_and_a_book(rt: HostRuntime) -> Result<(), Fail> {
         before(alloc, word(alloc, "f")?, parts)?,
     )?;
     match read_event(alloc, &form) {
-        Ok(Event::Defun(name, formals, body)) => {
-            assert_eq!(rt; name.text(), "F");
-            assert_eq!(rt; formals.len(), 2);
-            assert!(rt; symbol(body).is_some());
+        Ok(Event::Defun(function)) => {
+            assert_eq!(rt; function.name.text(), "F");
+            assert_eq!(rt; function.formals.len(), 2);
+            assert!(rt; symbol(function.body).is_some());
+            assert!(rt; function.measure.is_none());
+            assert_eq!(rt; function.proofs.len(), 0);
         }
         _ => assert!(rt; false),
     }

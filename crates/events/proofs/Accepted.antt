@@ -13,7 +13,7 @@ use Rattle.events.specs.declared.refusal.Refusal.TheVariants.{ProofWrong}
 use Rattle.plans.specs.declared.plan.Condition.{Condition}
 use Rattle.plans.specs.declared.plan.Plan.{Plan}
 use Rattle.events.specs.declared.clauses.Way.{Way}
-use Rattle.events.specs.declared.clauses.Way.TheVariants.{ByProof}
+use Rattle.events.specs.declared.clauses.Way.TheVariants.{ByProof, Unproved}
 use Rattle.plans.specs.Entries.{add_entries}
 use Rattle.events.specs.Redundancy.{is_redundant}
 use Rattle.events.specs.Frames.{Judged, coded, goes_on, Clauses, Frame}
@@ -26,6 +26,7 @@ use Rattle.plans.proofs.ProvedHold.{proved_conditions_hold}
 
 module _ (W : World) (sound : Sound W) where
   condition_holds : (c : Condition) (w : Way) → by_way W c w ≡ Ok (tt {0}) → Holds W.functions c.sequent
+  condition_holds c Unproved e = absurd (cc)
   condition_holds c (ByProof p) e = by_end (concludes W p) refl e
     where
       by_test : (s : Sequent) (b : Bool) → proves s c.sequent ≡ b → concludes W p ≡ Some s → (if b then Ok (tt {0}) else Err (ProofWrong c.name (steps p) Claim)) ≡ Ok (tt {0}) → Holds W.functions c.sequent

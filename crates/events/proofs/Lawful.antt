@@ -1,8 +1,9 @@
 -- Each event is lawful.
-use Rattle.std.proofs.Common.{◌≡◌, ℕ, ◌+◌, true, List, [], ◌∷◌, Option, Ok, refl, sym, subst}
+use Rattle.std.proofs.Common.{◌≡◌, ℕ, ◌+◌, true, List, [], ◌∷◌, Option, None, Ok, refl, sym, subst}
 use Rattle.lisp_data.specs.Values.{Name}
 use Rattle.lisp_data.specs.Datum.{Datum}
 use Rattle.terms.specs.Worlds.{World, Each, Holds, arity}
+use Rattle.terms.specs.Sound.{Sound}
 use Rattle.terms.specs.Measures.{obligations}
 use Rattle.terms.specs.Formed.{IsWellFormed}
 use Rattle.term_forms.specs.Translation.{map_outcome, translate}
@@ -14,6 +15,8 @@ use Rattle.proof_texts.specs.Parts.{any}
 use Rattle.plans.specs.declared.plan.Plan.{Plan}
 use Rattle.plans.specs.Entries.{AdmitsAll}
 use Rattle.plans.specs.Plans.{no_plan, ConditionsHold, HoldBefore, HoldAfter, IsLawfulPlan}
+use Rattle.event_forms.specs.Shapes.{FunctionParts}
+use Rattle.worlds.proofs.Free.{free}
 use Rattle.events.specs.Definitions.{new_name, definition_of}
 use Rattle.events.specs.Frames.{Frame}
 use Rattle.events.specs.Defun.{defun, decreases, measure_conditions, function_plan}
@@ -21,7 +24,7 @@ use Rattle.events.specs.Defthm.{defthm, theorem_plan}
 use Rattle.events.specs.Verdicts.{name_after, new_names}
 use Rattle.events.specs.Laws.{IsLawful}
 use Rattle.events.proofs.Inversions.{then_ok, map_ok, coded_ok}
-use Rattle.events.proofs.WellFormed.{takeable, formula_fits, name_is_free}
+use Rattle.events.proofs.WellFormed.{CanOwe, can_owe, takeable, formula_fits, name_is_free}
 
 -- the one new name of an event is free
 one_name : (W : World) (n : Name) → new_names W [] (n ∷ []) ≡ Ok (tt {0}) → is_free W n ≡ true
@@ -52,12 +55,19 @@ lawful_definition W d free ok =
     direct W (function_plan d) tt tt (λ hold. (record { free = free; well_formed = ok; owed = each_owed (Holds W.functions) (obligations d) hold }, tt))
 
 module _ (fit : TranslatedTermsFit) where
-  pub lawful_defun : (f : Name) (formals : List Datum) (body : Datum) → IsLawful (defun f formals body)
-  lawful_defun f formals body W sound names p e =
-      let free = one_name W f names in
-      let m = map_ok (definition_of W f formals body) function_plan p (coded_ok (map_outcome function_plan (definition_of W f formals body)) p e) in
-      let t = takeable fit W sound f free formals body m.0 m.1 in
+  pub lawful_defun : (f : FunctionParts) → IsLawful (defun f)
+  lawful_defun f W sound names p e =
+      let free = one_name W f.name names in
+      let m = map_ok (definition_of W f) function_plan p (coded_ok (map_outcome function_plan (definition_of W f)) p e) in
+      let t = takeable fit W sound f free m.0 m.1 in
       subst (IsLawfulPlan W) m.2 (lawful_definition W m.0 (subst (λ n. is_free W n ≡ true) (sym t.named) free) t.well_formed)
+
+  -- the obligations of a function with a new name can be told
+  pub owes : (W : World) → Sound W → (f : FunctionParts) → new_names W [] (f.name ∷ []) ≡ Ok (tt {0}) → (d : Definition) → definition_of W f ≡ Ok d → CanOwe d
+  owes W sound f names d e =
+      let is = one_name W f.name names in
+      let t = takeable fit W sound f is d e in
+      can_owe W.functions d (subst (λ n. arity W.functions n ≡ None) (sym t.named) (free W f.name is).no_function) t.well_formed
 
   pub lawful_defthm : (n : Name) (formula : Datum) (proof : Option Datum) → IsLawful (defthm n formula proof)
   lawful_defthm n formula proof W sound names p e =

@@ -6,3 +6,7 @@ pub mod Counted
 pub mod Lawful
 pub mod HandleLemmas
 pub mod StepLemmas
+pub mod ClauseLemmas
+pub mod ProvingLemmas
+pub mod OwedLemmas
+pub mod ConditionNames

@@ -4,20 +4,15 @@ use Rattle.std.specs.Result.{IsErr, IsErrAnd}
 use Rattle.lisp_data.specs.Values.{Name}
 use Rattle.lisp_data.specs.Datum.{Datum}
 use Rattle.lisp_data.specs.declared.code.Code.{Code}
-use Rattle.lisp_data.specs.declared.code.Code.TheVariants.{NotAnEvent}
 use Rattle.lisp_data.specs.RefusalCodes.{number}
 use Rattle.lisp_data.specs.declared.detail.Detail.{Detail}
-use Rattle.lisp_data.specs.declared.detail.Detail.TheVariants.{Absent}
 use Rattle.terms.specs.Terms.{Tm}
-use Rattle.terms.specs.Measures.{mentions}
 use Rattle.terms.specs.Worlds.{World}
-use Rattle.term_forms.specs.Translation.{Outcome, and_then}
+use Rattle.term_forms.specs.Translation.{Outcome, map_outcome}
 use Rattle.term_forms.specs.TranslationView.{SaysOutcome}
 use Rattle.term_forms.specs.declared.translation.TermError.{TermError}
 use Rattle.term_forms.specs.declared.translation.TermError.TheVariants as term
-use Rattle.event_forms.specs.Refused.{not_an_event}
 use Rattle.event_forms.specs.Shapes.{Event, event_of}
-use Rattle.events.specs.Definitions.{unless_recursive}
 use Rattle.events.specs.Halts.{IsCoded, IsRefusal, IsFromTerm, Reads, Answers}
 use Rattle.events.specs.Lines.{text_of, refused_line}
 use Rattle.events.specs.Refusals.{refusal_code}
@@ -30,31 +25,19 @@ use Rattle.events.specs.declared.halt.Halt.TheVariants.{Refused, Memory}
 use Rattle.events.specs.declared.steps.StepAnswer.{StepAnswer}
 use Rattle.events.specs.declared.steps.StepAnswer.TheVariants as answer
 
--- an error is the refusal of an outcome
-pub coded_refusal : {A : Type 0} (o : Outcome A) (code : Code) (d : Detail) (h : Halt) → IsCoded code d h → o ≡ Err (code, d) → IsRefusal o h
-coded_refusal o code d (Refused why) is same = subst (λ w. IsRefusal o (Refused w)) (sym is) same
-coded_refusal o code d Memory is same = tt
+-- a term's error is the refusal of the term
+pub term_refusal : (o : Outcome Tm) (t : TermError) (h : Halt) → SaysOutcome {A = Tm} o (Err t) → IsFromTerm t h → IsRefusal o h
+term_refusal o (term.Refused code d) h e is = subst (IsRefusal o) (sym is) e
+term_refusal o term.Memory h e is = subst (IsRefusal o) (sym is) tt
 
--- a term's error is the refusal of what goes on with the term
-pub term_refusal : {A : Type 0} (o : Outcome Tm) (k : Tm → Outcome A) (t : TermError) (h : Halt) → SaysOutcome {A = Tm} o (Err t) → IsFromTerm t h → IsRefusal (and_then o k) h
-term_refusal o k (term.Refused code d) h e is = subst (IsRefusal (and_then o k)) (sym is) (ap (λ p. and_then p k) e)
-term_refusal o k term.Memory h e is = subst (IsRefusal (and_then o k)) (sym is) tt
+-- and of what is made of the term
+pub mapped_refusal : {A : Type 0} (f : Tm → A) (o : Outcome Tm) (t : TermError) (h : Halt) → SaysOutcome {A = Tm} o (Err t) → IsFromTerm t h → IsRefusal (map_outcome f o) h
+mapped_refusal f o (term.Refused code d) h e is = subst (IsRefusal (map_outcome f o)) (sym is) (ap (map_outcome f) e)
+mapped_refusal f o term.Memory h e is = subst (IsRefusal (map_outcome f o)) (sym is) tt
 
 pub by_error : {A B : Type 0} (seen : A → B) (o : Outcome B) (r : Result A Halt) (P : Halt → Type 0) → IsErr r × IsErrAnd r P → ((h : Halt) → P h → IsRefusal o h) → Reads seen o r
 by_error seen o (Ok x) P h f = absurd h.1
 by_error seen o (Err e) P h f = f e h.1
-
--- a body that calls the function itself, and one that doesn't
-module _ (o : Outcome Tm) (f : Name) (t : Tm) (calls : Bool) (is : o ≡ Ok t) (test : calls ≡ mentions f t) where
-  goes_on : and_then o (unless_recursive f) ≡ (if calls then not_an_event else Ok t)
-  goes_on = ap (λ p. and_then p (unless_recursive f)) is ∙ ap (λ b. if b then not_an_event else Ok t) (sym test)
-
-  pub recursive_body : calls ≡ true → (h : Halt) → IsCoded NotAnEvent Absent h → IsRefusal (and_then o (unless_recursive f)) h
-  recursive_body is_true h coded =
-      coded_refusal (and_then o (unless_recursive f)) NotAnEvent Absent h coded (goes_on ∙ ap (λ b. if b then not_an_event else Ok t) is_true)
-
-  pub flat_body : calls ≡ false → and_then o (unless_recursive f) ≡ Ok t
-  flat_body is_false = goes_on ∙ ap (λ b. if b then not_an_event else Ok t) is_false
 
 module _ (W : World) (form : Datum) (place index : ℕ) where
   -- an answer that is no refusal

@@ -1,6 +1,7 @@
 -- What an event defines is well formed.
-use Rattle.std.proofs.Common.{◌≡◌, ℕ, Bool, true, false, cond, ◌&&◌, ◌||◌, List, [], ◌∷◌, length, bytes_eq, codes, nat_le, Option, Some, None, Ok, Err, if◌then◌else◌, refl, sym, ap, ◌∙◌, subst}
+use Rattle.std.proofs.Common.{◌≡◌, ℕ, Bool, true, false, cond, not, ◌&&◌, ◌||◌, List, [], ◌∷◌, length, bytes_eq, codes, nat_le, is_some, Option, Some, None, IfSome, Result, Ok, Err, if◌then◌else◌, refl, sym, ap, ◌∙◌, subst}
 use Rattle.std.proofs.lemmas.Bool.{or_parts}
+use Rattle.std.specs.List.{list_all}
 use Rattle.lisp_data.specs.Values.{Name}
 use Rattle.lisp_data.specs.Datum.{Datum}
 use Rattle.lisp_data.specs.declared.detail.Detail.TheVariants as detail
@@ -9,8 +10,12 @@ use Rattle.terms.specs.Terms.{Tm, Var, Quote, Call, Tms, Done, More}
 use Rattle.terms.specs.Definitions.{find}
 use Rattle.terms.specs.BuiltIn.{not_def, binary_append_def}
 use Rattle.terms.specs.Worlds.{World, Functions, IsIn, is_in, Distinct, arity, arity_by, Fits}
-use Rattle.terms.specs.Measures.{mentions, mentions_in, is_nested, is_nested_in}
-use Rattle.terms.specs.Formed.{with_def, IsWellFormed}
+use Rattle.terms.specs.Measures.{RecursiveCall, mentions, mentions_in, is_nested, is_nested_in, recursive_calls, call1}
+use Rattle.measures.specs.Calls.{CallsTake}
+use Rattle.measures.specs.DefaultMeasure.{changes, first_changed, count_of, default_measure}
+use Rattle.measures.specs.declared.errors.MeasureError.{MeasureError}
+use Rattle.measures.specs.declared.errors.MeasureError.TheVariants as measure
+use Rattle.terms.specs.Formed.{with_def, IsWellFormed, FitsOver}
 use Rattle.terms.specs.Sound.{Sound}
 use Rattle.term_forms.specs.Translation.{Takes, and_then, map_outcome, distinct_after, translate}
 use Rattle.term_forms.specs.TranslationLaws.{HasWords, TranslatedTermsFit}
@@ -26,7 +31,8 @@ use Rattle.proof_texts.specs.Parts.{any}
 use Rattle.events.specs.declared.definitions.TheConstants.{MAX_FORMALS}
 use Rattle.events.proofs.Inversions.{then_ok, map_ok, if_ok, unless_ok}
 use Rattle.lisp_data.specs.declared.code.Code.TheVariants as code
-use Rattle.events.specs.Definitions.{names_of, distinct, formals_of, with_own, function, unless_recursive, body_of, definition_of, new_name}
+use Rattle.event_forms.specs.Shapes.{FunctionParts}
+use Rattle.events.specs.Definitions.{names_of, distinct, formals_of, with_own, function, body_of, given_measure, by_default, or_default, measure_of, definition_over, definition_of, new_name}
 
 in_list : (ys : List Name) (x : Name) → is_in ys x ≡ true → IsIn ys x
 in_list [] x e = cc
@@ -146,37 +152,128 @@ own_arity F d none g k h = by_test (bytes_eq d.name g) refl h
     by_test true q e = ap (arity (with_def F d)) (sym (same_name d.name g q)) ∙ own_name F d none ∙ e
     by_test false q e = arity_later F d none g k e
 
+-- the first formal that calls change is a formal
+first_is_in : (formals vs : List Name) (cs : List RecursiveCall) (v : Name) → first_changed formals cs vs ≡ Some v → IsIn vs v
+first_is_in formals [] cs v e = absurd (cc)
+first_is_in formals (u ∷ us) cs v e = by_test (list_all (changes formals u) cs) e (first_is_in formals us cs v)
+  where
+    by_test : (b : Bool) → cond b (Some u) (first_changed formals cs us) ≡ Some v → (first_changed formals cs us ≡ Some v → IsIn us v) → IsIn (u ∷ us) v
+    by_test true h ih = let same : u ≡ v = cc in here u v (ap (bytes_eq u) (sym same) ∙ name_self u)
+      where
+        here : (x y : Name) → bytes_eq x y ≡ true → IsIn (x ∷ us) y
+        here x y q = by_eq (bytes_eq x y) q
+          where
+            by_eq : (b : Bool) → b ≡ true → cond b (Unit {0}) (IsIn us y)
+            by_eq true r = tt
+            by_eq false r = absurd (cc)
+    by_test false h ih = later (bytes_eq u v) (ih h)
+      where
+        later : (b : Bool) → IsIn us v → cond b (Unit {0}) (IsIn us v)
+        later true h' = tt
+        later false h' = h'
+
+-- a measure over the formals, in the functions of a world
+abbrev pub FitsMeasure : Functions → List Name → Option Tm → Type 0
+FitsMeasure F xs m = IfSome m (FitsOver F xs)
+
+-- the measure by default
+default_fits : (F : Functions) (f : Name) (xs : List Name) (t m : Tm) → default_measure f xs t ≡ Ok m → FitsOver F xs m
+unfolding primitive primitives
+default_fits F f xs t m e = by_test (is_nested f t) e
+  where
+    by_first : (o : Option Name) → first_changed xs (recursive_calls f [] t) xs ≡ o → count_of o ≡ Ok m → FitsOver F xs m
+    by_first None is h = absurd (cc)
+    by_first (Some v) is h =
+        let same : call1 (codes "ACL2-COUNT") (Var v) ≡ m = cc in
+        subst (FitsOver F xs) same (refl, (first_is_in xs xs (recursive_calls f [] t) v is, tt))
+
+    by_test : (b : Bool) → cond b (Err measure.Nested) (count_of (first_changed xs (recursive_calls f [] t) xs)) ≡ Ok m → FitsOver F xs m
+    by_test true h = absurd (cc)
+    by_test false h = by_first (first_changed xs (recursive_calls f [] t) xs) refl h
+
+-- what is asked of a function's measure
+pub record IsMeasured (F : Functions) (f : Name) (xs : List Name) (t : Tm) (m : Option Tm) : Type 0 where
+  pub fits : FitsMeasure F xs m
+  pub measured : mentions f t ≡ true → is_some m ≡ true
+  pub flat : is_nested f t ≡ false
+
+measure_fits : (F : Functions) (f : Name) (xs : List Name) (t : Tm) (given m : Option Tm) → FitsMeasure F xs given → measure_of f xs t given ≡ Ok m → IsMeasured F f xs t m
+measure_fits F f xs t given m fits e = by_test (mentions f t) refl e
+  where
+    by_outcome : (r : Result Tm MeasureError) → default_measure f xs t ≡ r → by_default f r ≡ Ok m → is_nested f t ≡ false → IsMeasured F f xs t m
+    by_outcome (Ok d) is h flat =
+        let same : Some d ≡ m = cc in
+        subst (IsMeasured F f xs t) same (record { fits = default_fits F f xs t d is; measured = λ _. refl; flat = flat })
+    by_outcome (Err measure.Nested) is h flat = absurd (cc)
+    by_outcome (Err measure.NoMeasure) is h flat = absurd (cc)
+    by_outcome (Err measure.Memory) is h flat = absurd (cc)
+
+    by_given : (o : Option Tm) → FitsMeasure F xs o → or_default f xs t o ≡ Ok m → is_nested f t ≡ false → IsMeasured F f xs t m
+    by_given None ok h flat = by_outcome (default_measure f xs t) refl h flat
+    by_given (Some d) ok h flat = let same : Some d ≡ m = cc in subst (IsMeasured F f xs t) same (record { fits = ok; measured = λ _. refl; flat = flat })
+
+    by_test : (b : Bool) → mentions f t ≡ b → (if not b then Ok None else if is_nested f t then Err (code.NestedRecursion, detail.Name f) else or_default f xs t given) ≡ Ok m → IsMeasured F f xs t m
+    by_test false is h =
+        let same : None ≡ m = cc in
+        subst (IsMeasured F f xs t) same (record { fits = tt; measured = λ c. absurd (cc (is, c)); flat = not_nested f t is })
+    by_test true is h =
+        let p = unless_ok (is_nested f t) (or_default f xs t given) (code.NestedRecursion, detail.Name f) m h in
+        by_given given fits p.1 p.0
+
 -- a definition that a world can take
 pub record IsTakeable (W : World) (f : Name) (d : Definition) : Type 0 where
   pub named : d.name ≡ f
   pub well_formed : IsWellFormed W.functions d
-  pub not_recursive : mentions d.name d.body ≡ false
+
+-- a definition whose obligations can be told
+pub record CanOwe (d : Definition) : Type 0 where
+  pub distinct : Distinct d.formals
+  pub arity : CallsTake d.name (length d.formals) d.body
+  pub flat : is_nested d.name d.body ≡ false
+
+pub can_owe : (F : Functions) (d : Definition) → arity F d.name ≡ None → IsWellFormed F d → CanOwe d
+can_owe F d none ok = record {
+  distinct = ok.formals;
+  arity = over_map (IsIn d.formals) (λ x. Unit {0}) (λ g k. arity (with_def F d) g ≡ Some k) (λ g k. g ≡ d.name → k ≡ length d.formals) (λ x h. tt) own_calls d.body ok.body;
+  flat = ok.flat;
+}
+  where
+    own_calls : (g : Name) (k : ℕ) → arity (with_def F d) g ≡ Some k → g ≡ d.name → k ≡ length d.formals
+    own_calls g k h same = let own : Some (length d.formals) ≡ Some k = sym (own_name F d none) ∙ ap (arity (with_def F d)) (sym same) ∙ h in cc
 
 module _ (fit : TranslatedTermsFit) (W : World) (sound : Sound W) where
-  pub takeable : (f : Name) → is_free W f ≡ true → (formals : List Datum) (body : Datum) (d : Definition) → definition_of W f formals body ≡ Ok d → IsTakeable W f d
-  takeable f is formals body d e =
+  -- the measure that is given
+  given_fits : (xs : List Name) (form : Option Datum) (given : Option Tm) → given_measure W xs form ≡ Ok given → FitsMeasure W.functions xs given
+  given_fits xs None given e = let same : None ≡ given = cc in subst (FitsMeasure W.functions xs) same tt
+  given_fits xs (Some form) given e =
+      let A = arity W.functions in
+      let m = map_ok (translate A (is_in xs) form) Some given e in
+      subst (FitsMeasure W.functions xs) m.2
+      (over_map (λ x. is_in xs x ≡ true) (IsIn xs) (λ g k. A g ≡ Some k) (λ g k. A g ≡ Some k) (in_list xs) (λ g k h. h) m.0 (fit A (words W sound) (is_in xs) form m.0 m.1).fits)
+
+  pub takeable : (p : FunctionParts) → is_free W p.name ≡ true → (d : Definition) → definition_of W p ≡ Ok d → IsTakeable W p.name d
+  takeable p is d e =
       let F = W.functions in
+      let f = p.name in
       let unused = (free W f is).no_function in
-      let p = then_ok (formals_of formals) (λ xs. map_outcome (function f xs) (body_of W f xs body)) d e in
-      let xs = p.0 in
+      let q = then_ok (formals_of p.formals) (definition_over W p) d e in
+      let xs = q.0 in
       let takes = with_own f (length xs) (arity F) in
-      let m = map_ok (body_of W f xs body) (function f xs) d p.2 in
-      let q = then_ok (translate takes (is_in xs) body) (unless_recursive f) m.0 m.1 in
-      let r = unless_ok (mentions f q.0) (Ok q.0) (code.NotAnEvent, detail.Absent) m.0 q.2 in
-      let t = q.0 in
-      let is_body : t ≡ m.0 = cc in
-      let is_function : function f xs t ≡ d = ap (function f xs) is_body ∙ m.2 in
-      let over = (fit takes (own_words W sound f (length xs) unused) (is_in xs) body t q.1).fits in
-      subst (IsTakeable W f) is_function (record {
+      let b = then_ok (body_of W f xs p.body) (λ body. and_then (given_measure W xs p.measure) (λ given. map_outcome (function f xs body) (measure_of f xs body given))) d q.2 in
+      let t = b.0 in
+      let g = then_ok (given_measure W xs p.measure) (λ given. map_outcome (function f xs t) (measure_of f xs t given)) d b.2 in
+      let m = map_ok (measure_of f xs t g.0) (function f xs t) d g.2 in
+      let measured = measure_fits F f xs t g.0 m.0 (given_fits xs p.measure g.0 g.1) m.1 in
+      let over = (fit takes (own_words W sound f (length xs) unused) (is_in xs) p.body t b.1).fits in
+      subst (IsTakeable W f) m.2 (record {
         named = refl;
         well_formed = record {
-          formals = formals_distinct formals xs p.1;
-          body = over_map (λ x. is_in xs x ≡ true) (IsIn xs) (λ g k. takes g ≡ Some k) (λ g k. arity (with_def F (function f xs t)) g ≡ Some k) (in_list xs) (λ g k h. own_arity F (function f xs t) unused g k h) t over;
-          measure = tt;
-          measured = λ m. absurd (cc (m, r.0));
-          flat = not_nested f t r.0;
+          formals = formals_distinct p.formals xs q.1;
+          body = over_map (λ x. is_in xs x ≡ true) (IsIn xs) (λ g k. takes g ≡ Some k) (λ g k. arity (with_def F (function f xs t m.0)) g ≡ Some k) (in_list xs) (λ g k h. own_arity F (function f xs t m.0) unused g k h) t over;
+          measure = measured.fits;
+          measured = measured.measured;
+          flat = measured.flat;
         };
-        not_recursive = r.0;
       })
 
   -- the formula of a theorem fits the world

@@ -1,6 +1,6 @@
 -- What the calls that handle an event answer.
-use Rattle.std.specs.Prelude.{◌≡◌, ℕ, true, codes, List, [], ◌∷◌, ◌++◌, Result, Ok, Err}
-use Rattle.lisp_data.specs.FormView.{form_of, IsProper}
+use Rattle.std.specs.Prelude.{◌≡◌, ℕ, Bool, true, if◌then◌else◌, bytes_eq, codes, List, [], ◌∷◌, ◌++◌, map, Option, Some, None, Result, Ok, Err}
+use Rattle.lisp_data.specs.FormView.{form_of, IsProper, AllProper}
 use Rattle.lisp_data.specs.Datum.{Datum}
 use Rattle.lisp_data.specs.Values.{Name}
 use Rattle.lisp_data.specs.declared.code.Code.{Code}
@@ -11,6 +11,7 @@ use Rattle.term_forms.specs.declared.translation.TermError.{TermError}
 use Rattle.term_forms.specs.declared.translation.TermError.TheVariants as term
 use Rattle.kernel.specs.Conclusion.{Conclusion}
 use Rattle.kernel.specs.declared.errors.RuleName.{RuleName}
+use Rattle.event_forms.specs.Clauses.{clauses_in}
 use Rattle.event_forms.specs.Shapes.{Event}
 use Rattle.event_forms.specs.declared.errors.EventError.{EventError}
 use Rattle.event_forms.specs.declared.errors.EventError.TheVariants as event
@@ -24,7 +25,7 @@ use Rattle.events.specs.declared.refusal.Refusal.TheVariants.{Coded, ProofWrong,
 use Rattle.events.specs.declared.halt.Halt.{Halt}
 use Rattle.events.specs.declared.halt.Halt.TheVariants.{Refused, Memory}
 use Rattle.events.specs.declared.clauses.Clauses.{Clauses}
-use Rattle.events.specs.declared.clauses.Clauses.TheVariants.{NoClauses, Goal}
+use Rattle.events.specs.declared.clauses.Clauses.TheVariants.{NoClauses, Goal, Each}
 use Rattle.events.specs.declared.clauses.Way.{Way}
 use Rattle.events.specs.declared.handle.Made.{Made}
 use Rattle.events.specs.declared.redundancy.Repeats.{Repeats}
@@ -35,7 +36,7 @@ use Rattle.events.specs.Frames as frames
 use Rattle.events.specs.Frames.{Judged, Frame}
 use Rattle.events.specs.Kinds.{frame_of}
 use Rattle.events.specs.Verdicts as verdict
-use Rattle.events.specs.Verdicts.{by_way, all_proved, checked, verdict_of}
+use Rattle.events.specs.Verdicts.{is_condition, by_way, all_proved, checked, verdict_of}
 use Rattle.events.specs.Lines.{event_text}
 use Rattle.events.specs.declared.handle.EventProofs.{EventProofs}
 
@@ -88,10 +89,22 @@ IsFromTerm term.Memory e = e ≡ Memory
 abbrev pub clauses_seen : Clauses → frames.Clauses
 clauses_seen NoClauses = frames.no_clauses
 clauses_seen (Goal text) = record { proofs = (codes ":GOAL", form_of text.now) ∷ [] }
+clauses_seen (Each forms) = record { proofs = clauses_in (map form_of forms.now) }
 
 abbrev pub AreProper : Clauses → Type 0
 AreProper NoClauses = Unit {0}
 AreProper (Goal text) = IsProper text.now
+AreProper (Each forms) = AllProper forms.now
+
+-- what is a clause is of a condition
+abbrev pub of_condition : List Condition → Option (Name × Datum) → Bool
+of_condition cs None = true
+of_condition cs (Some c) = is_condition cs c.0
+
+-- the text of a clause of the condition n
+abbrev pub text_under : Option (Name × Datum) → Name → Option Datum
+text_under None n = None
+text_under (Some c) n = if bytes_eq n c.0 then Some c.1 else None
 
 -- what the code's word on redundancy is seen as
 abbrev pub repeats_seen : Repeats → frames.Repeats

@@ -9,5 +9,5 @@ use Rattle.events.specs.Defthm.{defthm}
 abbrev pub frame_of : Event → Frame
 frame_of InPackage = in_package
 frame_of (IncludeBook book) = include_book book
-frame_of (Defun f formals body) = defun f formals body
+frame_of (Defun function) = defun function
 frame_of (Defthm n formula proof) = defthm n formula proof

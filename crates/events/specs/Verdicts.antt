@@ -21,7 +21,7 @@ use Rattle.plans.specs.declared.plan.Plan.{Plan}
 use Rattle.plans.specs.Entries.{add_entries}
 use Rattle.plans.specs.Proving.{proves}
 use Rattle.events.specs.declared.clauses.Way.{Way}
-use Rattle.events.specs.declared.clauses.Way.TheVariants.{ByProof}
+use Rattle.events.specs.declared.clauses.Way.TheVariants.{ByProof, Unproved}
 use Rattle.events.specs.declared.refusal.Refusal.{Refusal}
 use Rattle.events.specs.declared.refusal.Refusal.TheVariants.{Coded, ProofWrong, AtNode}
 use Rattle.events.specs.Definitions.{new_name}
@@ -61,10 +61,10 @@ abbrev pub clause_of : List (Name × Datum) → Name → Option Datum
 clause_of [] n = None
 clause_of (p ∷ ps) n = if bytes_eq n p.0 then Some p.1 else clause_of ps n
 
--- How a condition is proved: by the proof of a text; a condition without one isn't proved yet. It is opened only where it is needed, since the
--- reading of a proof would stand in each goal.
+-- How a condition is proved: by the proof of a text, where it has one. It is opened only where it is needed, since the reading of a proof would
+-- stand in each goal.
 unfoldable pub way_by : World → Option Datum → Outcome Way
-way_by W None = not_an_event
+way_by W None = Ok Unproved
 way_by W (Some text) = map_outcome ByProof (proof_of W text)
 
 -- the ways of conditions, in order
@@ -88,7 +88,9 @@ abbrev pub by_conclusion : World → Condition → ProofTree → Option Sequent 
 by_conclusion W c p None = Err (bad_node c.name (first_bad W 0 p))
 by_conclusion W c p (Some s) = if proves s c.sequent then Ok tt else Err (ProofWrong c.name (steps p) Claim)
 
+-- a condition without a proof is unsupported so far
 abbrev pub by_way : World → Condition → Way → Judged (Unit {0})
+by_way W c Unproved = coded not_an_event
 by_way W c (ByProof p) = by_conclusion W c p (concludes W p)
 
 -- the conditions in order, each in its way; one without a way never comes

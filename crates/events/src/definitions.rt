@@ -1,22 +1,23 @@
 //! What events define.
 
-ghost use Rattle.std.specs.Prelude.{◌≡◌, [], map};
+ghost use Rattle.std.specs.Prelude.{◌≡◌, [], map, option_map, Some, IfSome};
 ghost use Rattle.lisp_data.specs.FormView.{form_of, IsProper, AllProper};
-ghost use Rattle.terms.specs.Measures.{mentions as calls};
-ghost use Rattle.terms.specs.Terms.{tms};
-ghost use Rattle.terms.specs.Measures.{mentions_in};
 ghost use Rattle.term_forms.specs.Translation.{distinct_after};
+ghost use Rattle.measures.specs.DefaultMeasure as defaults;
+ghost use Rattle.event_forms.specs.ShapeView.{function_seen, IsProperFunction};
 ghost use Rattle.events.specs.Definitions as spec;
 ghost use Rattle.events.specs.Halts.{Reads};
 
 use crate::halt::Halt;
 use crate::names::is_among;
 use crate::own::WithOwn;
+use event_forms::FunctionParts;
 use lisp_data::{Code, Form, Symbol, Symbols};
+use measures::{MeasureError, default_measure, is_nested, mentions};
 use proof_texts::symbol;
 use std::alloc::Global;
 use term_forms::{Scope, is_variable_name, translate};
-use terms::{Definition, Node, Term};
+use terms::{Definition, Term};
 use worlds::World;
 
 /// The most formals of a function.
@@ -78,33 +79,7 @@ fn read_formals(alloc: Global, forms: &[Form]) -> Result<Symbols, Halt>
     Ok(names)
 }
 
-/// Whether a term calls a function.
-#[cycle(mentions)]
-#[tactic(auto, using(terms::proofs::Args::args))]
-fn mentions(name: &Symbol, term: &Term) -> bool
-    ensures { result ≡ calls name.now term.now }
-{
-    match term.node() {
-        Node::Var(_) => false,
-        Node::Quote(_) => false,
-        Node::Call(called, args) => name.same(called) || mentioned_in(name, args.as_slice()),
-    }
-}
-
-#[cycle(mentions)]
-#[tactic(auto, using(terms::proofs::Args::args))]
-fn mentioned_in(name: &Symbol, terms: &[Term]) -> bool
-    ensures { result ≡ mentions_in name.now (tms terms.now) }
-{
-    for term in terms {
-        if mentions(name, term) {
-            return true;
-        }
-    }
-    false
-}
-
-/// The body of a function over its formals, which doesn't call the function.
+/// The body of a function over its formals.
 fn read_body(
     alloc: Global,
     world: &World,
@@ -121,31 +96,111 @@ fn read_body(
         arity: formals.len(),
     };
     let body = translate(alloc, body, &functions, &Scope::Only(formals))?;
-    if mentions(name, &body) {
-        return Err(Halt::not_an_event());
-    }
     Ok(body)
+}
+
+/// A measure that is given, over the formals and without the new function.
+fn read_given(
+    alloc: Global,
+    world: &World,
+    formals: &Symbols,
+    measure: &Form,
+) -> Result<Option<Term>, Halt>
+    requires { IsProper measure.now }
+    ensures { Reads (λ m. m) (spec.given_measure world.now formals.now (Some (form_of measure.now))) result }
+{
+    let measure = translate(alloc, measure, world, &Scope::Only(formals))?;
+    Ok(Some(measure))
+}
+
+/// The measure, where it is given.
+fn read_measure(
+    alloc: Global,
+    world: &World,
+    formals: &Symbols,
+    measure: Option<&Form>,
+) -> Result<Option<Term>, Halt>
+    requires { IfSome measure (λ m. IsProper m.now) }
+    ensures { Reads (λ m. m) (spec.given_measure world.now formals.now (option_map (λ m. form_of m.now) measure.entry)) result }
+{
+    match measure {
+        None => Ok(None),
+        Some(measure) => read_given(alloc, world, formals, measure),
+    }
+}
+
+/// The measure by default.
+fn by_default(
+    alloc: Global,
+    name: &Symbol,
+    formals: &Symbols,
+    body: &Term,
+) -> Result<Option<Term>, Halt>
+    ensures { Reads (λ m. m) (spec.by_default name.now (defaults.default_measure name.now formals.now body.now)) result }
+{
+    match default_measure(alloc, name, formals, body) {
+        Ok(measure) => Ok(Some(measure)),
+        Err(error) => match error {
+            MeasureError::Nested => Err(Halt::named(Code::NestedRecursion, name)),
+            MeasureError::NoMeasure => Err(Halt::named(Code::NoMeasure, name)),
+            MeasureError::Memory => Err(Halt::Memory),
+        },
+    }
+}
+
+/// The measure of a function with this body: the given one or the one by default, where it is recursive.
+fn measure_of(
+    alloc: Global,
+    name: &Symbol,
+    formals: &Symbols,
+    body: &Term,
+    given: Option<Term>,
+) -> Result<Option<Term>, Halt>
+    ensures { Reads (λ m. m) (spec.measure_of name.now formals.now body.now given) result }
+{
+    if !mentions(name, body) {
+        return Ok(None);
+    }
+    if is_nested(name, body) {
+        return Err(Halt::named(Code::NestedRecursion, name));
+    }
+    match given {
+        Some(measure) => Ok(Some(measure)),
+        None => by_default(alloc, name, formals, body),
+    }
+}
+
+/// The definition of a function over its formals.
+fn read_over(
+    alloc: Global,
+    world: &World,
+    parts: &FunctionParts<'_>,
+    formals: Symbols,
+) -> Result<Definition, Halt>
+    requires { IsProperFunction parts.now }
+    ensures { Reads (λ d. d) (spec.definition_over world.now (function_seen parts.now) formals) result }
+{
+    let body = read_body(alloc, world, parts.name, &formals, parts.body)?;
+    let given = read_measure(alloc, world, &formals, parts.measure)?;
+    let measure = measure_of(alloc, parts.name, &formals, &body, given)?;
+    let name = parts.name.share()?;
+    Ok(Definition {
+        name,
+        formals,
+        body,
+        measure,
+    })
 }
 
 /// The definition of a function by its parts.
 pub(crate) fn read_definition(
     alloc: Global,
     world: &World,
-    name: &Symbol,
-    formals: &[Form],
-    body: &Form,
+    parts: &FunctionParts<'_>,
 ) -> Result<Definition, Halt>
-    requires formals { AllProper formals.now }
-    requires body { IsProper body.now }
-    ensures { Reads (λ d. d) (spec.definition_of world.now name.now (map form_of formals.now) (form_of body.now)) result }
+    requires { IsProperFunction parts.now }
+    ensures { Reads (λ d. d) (spec.definition_of world.now (function_seen parts.now)) result }
 {
-    let formals = read_formals(alloc, formals)?;
-    let body = read_body(alloc, world, name, &formals, body)?;
-    let name = name.share()?;
-    Ok(Definition {
-        name,
-        formals,
-        body,
-        measure: None,
-    })
+    let formals = read_formals(alloc, parts.formals)?;
+    read_over(alloc, world, parts, formals)
 }

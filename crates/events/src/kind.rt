@@ -1,9 +1,10 @@
 //! What the handling of events asks of a kind of event.
 
-ghost use Rattle.std.specs.Prelude.{◌≡◌, ◌++◌, IfOk, OnOk};
+ghost use Rattle.std.specs.Prelude.{◌≡◌, ◌++◌, [], Ok, IfOk, OnOk};
 ghost use Rattle.plans.specs.Plans.{IsDirect};
 ghost use Rattle.events.specs.Frames.{Frame};
 ghost use Rattle.events.specs.Laws.{IsLawful};
+ghost use Rattle.events.specs.Verdicts.{new_names};
 ghost use Rattle.events.specs.Halts.{Says, clauses_seen, AreProper, repeats_seen, HasProperFormula};
 
 use crate::clauses::Clauses;
@@ -49,7 +50,8 @@ pub trait Kind {
 
     /// What it makes and what has to be proved for it, where its names are new.
     fn plan(&self, alloc: Global, world: &World) -> Result<Plan, Halt>
-        requires { proper self.now }
+        requires proper { proper self.now }
+        requires names { new_names world.now [] (frame self.now).names ≡ Ok tt }
         ensures plan { Says (λ plan. plan) ((frame self.now).plan world.now) result }
         ensures direct { IfOk result IsDirect };
 }

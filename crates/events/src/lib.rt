@@ -10,6 +10,7 @@ mod kinds;
 mod laws;
 mod lines;
 mod names;
+mod owed;
 mod own;
 mod proving;
 mod redundancy;

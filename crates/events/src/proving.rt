@@ -1,5 +1,6 @@
 //! The conditions of an event, proved one after the other.
 
+ghost use Rattle.events.specs.declared.clauses.Way.TheVariants.{ByProof};
 ghost use Rattle.events.specs.Halts.{IsWrong, IsStopped, ProvesOne, ProvesAfter};
 
 use crate::clauses::Way;
@@ -9,6 +10,7 @@ use crate::refusal::Refusal;
 use kernel::{CheckError, Proved, RuleName, check};
 use lisp_data::Code;
 use plans::{Condition, proves};
+use proof_objects::Proof;
 use std::alloc::Global;
 use worlds::World;
 
@@ -40,11 +42,15 @@ fn stopped(condition: &Condition, node: u32, code: Code) -> Halt
     }
 }
 
-/// Proves a condition in the world, in its way.
-fn prove_one(alloc: Global, world: &World, condition: &Condition, way: &Way) -> Result<Proved, Halt>
-    ensures { ProvesOne world.now condition.now way.now result }
+/// Proves a condition in the world by a proof.
+fn prove_by(
+    alloc: Global,
+    world: &World,
+    condition: &Condition,
+    proof: &Proof,
+) -> Result<Proved, Halt>
+    ensures { ProvesOne world.now condition.now (ByProof proof.now) result }
 {
-    let Way::ByProof(proof) = way;
     match check(alloc, world, proof) {
         Ok(proved) => {
             if proves(proved.sequent(), &condition.sequent) {
@@ -61,7 +67,18 @@ fn prove_one(alloc: Global, world: &World, condition: &Condition, way: &Way) -> 
     }
 }
 
+/// Proves a condition in the world, in its way.
+fn prove_one(alloc: Global, world: &World, condition: &Condition, way: &Way) -> Result<Proved, Halt>
+    ensures { ProvesOne world.now condition.now way.now result }
+{
+    match way {
+        Way::ByProof(proof) => prove_by(alloc, world, condition, proof),
+        Way::Unproved => Err(Halt::not_an_event()),
+    }
+}
+
 /// Proves the conditions in order, and puts their proofs behind those that there are.
+#[tactic(auto, using(crate::proofs::ProvingLemmas::proving))]
 pub(crate) fn prove_all(
     alloc: Global,
     world: &World,
@@ -71,15 +88,16 @@ pub(crate) fn prove_all(
 ) -> Result<ProvedList, Halt>
     ensures { ProvesAfter world.now conditions.now ways.now before result }
 {
-    match conditions {
-        [] => Ok(before),
-        [first, rest @ ..] => match ways {
-            [] => Err(Halt::not_an_event()),
-            [way, others @ ..] => {
-                let proved = prove_one(alloc, world, first, way)?;
-                before.push(proved)?;
-                prove_all(alloc, world, rest, others, before)
-            }
-        },
+    let mut rest = conditions;
+    let mut others = ways;
+    while let [condition, more @ ..] = rest {
+        let [way, left @ ..] = others else {
+            return Err(Halt::not_an_event());
+        };
+        let proved = prove_one(alloc, world, condition, way)?;
+        before.push(proved)?;
+        rest = more;
+        others = left;
     }
+    Ok(before)
 }

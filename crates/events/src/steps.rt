@@ -68,14 +68,7 @@ fn answer(alloc: Global, world: &World, form: &Form) -> Result<StepAnswer, Halt>
     match read_event(alloc, form)? {
         Event::InPackage => handle(alloc, world, form, &InPackage),
         Event::IncludeBook(book) => handle(alloc, world, form, &IncludeBook { book }),
-        Event::Defun(name, formals, body) => {
-            let event = Defun {
-                name,
-                formals,
-                body,
-            };
-            handle(alloc, world, form, &event)
-        }
+        Event::Defun(function) => handle(alloc, world, form, &Defun { function }),
         Event::Defthm(name, formula, proof) => {
             let event = Defthm {
                 name,

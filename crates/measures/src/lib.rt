@@ -15,6 +15,7 @@ pub use counts::has_obligation;
 pub use defaults::default_measure;
 pub use errors::MeasureError;
 pub use owed::{Sequents, obligations};
+pub use shapes::{is_nested, mentions};
 
 #[cfg(test)]
 mod tests;

@@ -9,10 +9,10 @@ use lisp_data::{Memory, Symbol};
 use std::alloc::Global;
 use terms::{Node, Term, Terms};
 
-/// Whether the term calls the function.
+/// Whether the term calls the function (docs/MODEL.md, "Recursive calls and obligations").
 #[cycle(mentions)]
 #[tactic(auto, using(terms::proofs::Args::args))]
-pub(crate) fn mentions(name: &Symbol, term: &Term) -> bool
+pub fn mentions(name: &Symbol, term: &Term) -> bool
     ensures { result ≡ spec.mentions name.now term.now }
 {
     match term.node() {
@@ -35,10 +35,10 @@ fn mentions_in(name: &Symbol, terms: &[Term]) -> bool
     false
 }
 
-/// Whether an argument of a call of the function calls it too.
+/// Whether an argument of a call of the function calls it too (docs/MODEL.md, "Recursive calls and obligations").
 #[cycle(nested)]
 #[tactic(auto, using(terms::proofs::Args::args))]
-pub(crate) fn is_nested(name: &Symbol, term: &Term) -> bool
+pub fn is_nested(name: &Symbol, term: &Term) -> bool
     ensures { result ≡ spec.is_nested name.now term.now }
 {
     match term.node() {

@@ -1,15 +1,16 @@
 //! `defun`.
 
-ghost use Rattle.std.specs.Prelude.{map};
-ghost use Rattle.lisp_data.specs.FormView.{form_of, IsProper, AllProper};
+ghost use Rattle.event_forms.specs.ShapeView.{function_seen, IsProperFunction};
 ghost use Rattle.events.specs.Defun as spec;
 
 use crate::clauses::Clauses;
 use crate::definitions::read_definition;
 use crate::halt::Halt;
 use crate::kind::Kind;
+use crate::owed::measure_conditions;
 use crate::redundancy::Repeats;
-use lisp_data::{Form, Symbol, Symbols};
+use event_forms::FunctionParts;
+use lisp_data::Symbols;
 use lists::{Memory, Text};
 use plans::{Entry, Plan};
 use std::alloc::Global;
@@ -18,15 +19,13 @@ use worlds::World;
 /// `(defun f (x ..) .. body)`.
 #[derive(Clone, Copy)]
 pub struct Defun<'a> {
-    pub name: &'a Symbol,
-    pub formals: &'a [Form],
-    pub body: &'a Form,
+    pub function: FunctionParts<'a>,
 }
 
 impl Kind for Defun<'_> {
-    ghost frame = { λ e. spec.defun e.name.now (map form_of e.formals.now) (form_of e.body.now) };
+    ghost frame = { λ e. spec.defun (function_seen e.function) };
 
-    ghost proper = { λ e. AllProper e.formals.now × IsProper e.body.now };
+    ghost proper = { λ e. IsProperFunction e.function };
 
     fn is_lawful(&self) {
         term_forms::translated_terms_fit();
@@ -34,12 +33,12 @@ impl Kind for Defun<'_> {
 
     fn write_title(&self, out: &mut Text) -> Result<(), Memory> {
         out.extend(b"defun ")?;
-        out.extend(self.name.text().as_bytes())
+        out.extend(self.function.name.text().as_bytes())
     }
 
     fn names(&self, alloc: Global) -> Result<Symbols, Memory> {
         let mut names = Symbols::new(alloc);
-        names.push(self.name.share()?)?;
+        names.push(self.function.name.share()?)?;
         Ok(names)
     }
 
@@ -48,13 +47,15 @@ impl Kind for Defun<'_> {
     }
 
     fn clauses(&self) -> Clauses<'_> {
-        Clauses::NoClauses
+        Clauses::Each(self.function.proofs)
     }
 
-    /// The function's measure owes nothing, since recursive functions aren't there yet.
     fn plan(&self, alloc: Global, world: &World) -> Result<Plan, Halt> {
-        let definition = read_definition(alloc, world, self.name, self.formals, self.body)?;
+        world.soundness();
+        term_forms::translated_terms_fit();
+        let definition = read_definition(alloc, world, &self.function)?;
         let mut plan = Plan::new(alloc);
+        plan.conditions = measure_conditions(alloc, &definition)?;
         plan.entries.push(Entry::Function(definition))?;
         Ok(plan)
     }

@@ -4,9 +4,9 @@ use Rattle.terms.specs.Terms.{Tm}
 use Rattle.terms.specs.Worlds.{arity, is_in}
 use Rattle.term_forms.specs.Translation.{Outcome, translate}
 use Rattle.term_forms.specs.TranslationView.{SaysOutcome}
-use Rattle.events.specs.Definitions.{with_own, body_of, unless_recursive}
+use Rattle.events.specs.Definitions.{with_own, body_of}
 use Rattle.events.specs.Halts.{IsFromTerm}
-use Rattle.events.proofs.StepLemmas.{by_error, term_refusal, recursive_body, flat_body}
+use Rattle.events.proofs.StepLemmas.{by_error, term_refusal}
 use Rattle.events.proofs.definitions.read_body.Goals as goal
 
 pub returns-in_err-body : goal.returns-in_err-body
@@ -16,14 +16,7 @@ returns-in_err-body c =
     let all = length c.args.formals.now in
     let says : SaysOutcome {A = Tm} (o all) (Err c.in_err-body.field-0.0) = subst (λ n. SaysOutcome {A = Tm} (o n) (Err c.in_err-body.field-0.0)) c.len.ensures said in
     by_error (λ t. t) (body_of c.args.world.now c.args.name.now c.args.formals.now (form_of c.args.body.now)) c.from_residual.result (IsFromTerm c.in_err-body.field-0.0)
-    c.from_residual.ensures (λ h is. term_refusal (o all) (unless_recursive c.args.name.now) c.in_err-body.field-0.0 h says is)
-
-pub returns-then-mentions : goal.returns-then-mentions
-returns-then-mentions c =
-    let o : Outcome Tm = translate (with_own c.args.name.now (length c.args.formals.now) (arity c.args.world.now.functions)) (is_in c.args.formals.now) (form_of c.args.body.now) in
-    recursive_body o c.args.name.now c.in_ok-body.body c.mentions.result (rw c.len.ensures at c.in_ok-body.ensures) c.mentions.ensures c.if-mentions.true c.not_an_event.result c.not_an_event.ensures
+    c.from_residual.ensures (λ h is. term_refusal (o all) c.in_err-body.field-0.0 h says is)
 
 pub returns : goal.returns
-returns c =
-    let o : Outcome Tm = translate (with_own c.args.name.now (length c.args.formals.now) (arity c.args.world.now.functions)) (is_in c.args.formals.now) (form_of c.args.body.now) in
-    flat_body o c.args.name.now c.in_ok-body.body c.mentions.result (rw c.len.ensures at c.in_ok-body.ensures) c.mentions.ensures c.if-mentions.false
+returns c = rw c.len.ensures at c.in_ok-body.ensures
