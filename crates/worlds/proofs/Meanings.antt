@@ -10,7 +10,7 @@ use Rattle.terms.specs.declared.definition.Definition.{Definition as Def}
 use Rattle.terms.specs.declared.entries.Specification.{Specification as Spec}
 use Rattle.terms.specs.declared.entries.Iso.{Iso as Isomorphism}
 use Rattle.terms.proofs.Names.{same_name}
-use Rattle.worlds.specs.EntryLists.{first, any, grown}
+use Rattle.worlds.specs.EntryLists.{first, any, grown, empty_world}
 use Rattle.worlds.specs.Entries.{is_named, definition_of, variable_of, theorem_of, specification_of, iso_of}
 use Rattle.worlds.specs.Indexes.{AgreeAt}
 use Rattle.worlds.specs.Lookups.{find_spec, find_iso}
@@ -20,7 +20,7 @@ use Rattle.worlds.specs.declared.entry.Entry.{Entry}
 use Rattle.worlds.specs.declared.entry.Entry.TheVariants.{Function, Variable as VariableEntry, Theorem as TheoremEntry, Specification as SpecEntry, Iso as IsoEntry}
 use Rattle.worlds.specs.declared.named.Named.{Named}
 use Rattle.worlds.specs.declared.named.Named.TheVariants.{Primitive, Definition, Variable, Theorem, Specification, Iso}
-use Rattle.worlds.proofs.Lookups.{find-grown, vars-grown, lookup-grown, spec-grown, iso-grown, is_in-grown}
+use Rattle.worlds.proofs.Lookups.{or-none, or-false, find-grown, vars-grown, lookup-grown, spec-grown, iso-grown, is_in-grown}
 use Rattle.worlds.proofs.Reserved.{is_in-append, is_in-keys}
 
 -- an entry without the name gives nothing for it
@@ -82,6 +82,20 @@ told n es W agree (Some (Theorem s)) h = sym agree.theorems ∙ h
 told n es W agree (Some (Specification s)) h = sym agree.specs ∙ h
 told n es W agree (Some (Iso i)) h = sym agree.isos ∙ h
 
+-- what a world of these entries alone tells, the entries give
+given-alone : (n : Name) (es : List Entry) (r : Option Named) → Tells (grown es empty_world) n r → Gives n es r
+given-alone n es None h = sym (is_in-grown es empty_world n ∙ or-false (any (λ e. is_named e n) es)) ∙ h
+given-alone n es (Some (Primitive k)) h = h
+given-alone n es (Some (Definition d)) h = or-none (first (λ e. definition_of e n) es) ∙ sym (find-grown es empty_world n) ∙ h
+given-alone n es (Some (Variable k)) h = or-none (first (λ e. variable_of e n) es) ∙ sym (vars-grown es empty_world n) ∙ h
+given-alone n es (Some (Theorem s)) h = or-none (first (λ e. theorem_of e n) es) ∙ sym (lookup-grown es empty_world n) ∙ h
+given-alone n es (Some (Specification s)) h = or-none (first (λ e. specification_of e n) es) ∙ sym (spec-grown es empty_world n) ∙ h
+given-alone n es (Some (Iso i)) h = or-none (first (λ e. iso_of e n) es) ∙ sym (iso-grown es empty_world n) ∙ h
+
+-- what the entries that are found by the name give, all of them do
+pub gives-all : (n : Name) (found es : List Entry) → AgreeAt n found (grown es empty_world) → (r : Option Named) → Gives n found r → Gives n es r
+gives-all n found es agree r h = given-alone n es r (told n found (grown es empty_world) agree r h)
+
 -- newer entries give the name away
 pub tells-newer : (n : Name) (es : List Entry) (W : World) (x : Named) → Gives n es (Some x) → Tells (grown es W) n (Some x)
 tells-newer n es W (Primitive k) h = h
@@ -100,6 +114,11 @@ tells-older n es W off (Some (Variable k)) h = vars-grown es W n ∙ ap (λ o. o
 tells-older n es W off (Some (Theorem s)) h = lookup-grown es W n ∙ ap (λ o. option_or o (lookup W.theorems n)) (none_first n (λ f. theorem_of f n) (no_theorem n) es off) ∙ h
 tells-older n es W off (Some (Specification s)) h = spec-grown es W n ∙ ap (λ o. option_or o (find_spec W.specifications n)) (none_first n (λ f. specification_of f n) (no_specification n) es off) ∙ h
 tells-older n es W off (Some (Iso i)) h = iso-grown es W n ∙ ap (λ o. option_or o (find_iso W.isos n)) (none_first n (λ f. iso_of f n) (no_iso n) es off) ∙ h
+
+-- what entries tell of a world that has nothing else
+pub tells-alone : (n : Name) (es : List Entry) (r : Option Named) → Gives n es r → Tells (grown es empty_world) n r
+tells-alone n es None h = tells-older n es empty_world h None refl
+tells-alone n es (Some x) h = tells-newer n es empty_world x h
 
 -- a name is among those of a list where looking it up finds something
 is_in-definitions : (ds : List Def) (n : Name) → is_in (map (λ d. d.name) ds) n ≡ is_some (find ds n)

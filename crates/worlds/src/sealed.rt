@@ -1,4 +1,4 @@
-//! Worlds with an index of all that they hold.
+//! Worlds with indexes of all that they hold.
 
 ghost use Rattle.std.specs.Prelude.{◌≡◌, IfOk, IfSome};
 ghost use Rattle.std.specs.Option.{option_copied, option_map};
@@ -12,11 +12,10 @@ ghost use Rattle.worlds.specs.Lookups.{find_instance};
 ghost use Rattle.worlds.specs.Named.{Tells};
 ghost use Rattle.worlds.specs.Names.{reserved};
 
+use crate::block::Block;
 use crate::built_in::with_definitions;
 use crate::built_in_theorems::with_theorems;
 use crate::entries::Entries;
-use crate::entry::event_key;
-use crate::index::Index;
 use crate::named::Named;
 use crate::names::Words;
 use lisp_data::{Form, Memory, Symbol};
@@ -25,12 +24,15 @@ use std::marker::Model;
 use std::rc::Rc;
 use terms::{FunPairs, Link};
 
-/// A world with an index of all its entries. Contracts see it as a world.
+/// A world of two blocks, a large one of older entries and a small one of those since, each with an index. To seal more
+/// entries copies the small index alone, but for each so many times. Contracts see it as a world.
 #[derive(Drop)]
 pub(crate) struct Sealed {
     words: Rc<Words>,
-    entries: Entries,
-    index: Index,
+    older: Rc<Block>,
+    newer: Block,
+    /// After so many more times all goes into the large block.
+    until_joined: usize,
 }
 
 impl Model for Sealed {
@@ -42,12 +44,21 @@ impl Model for Sealed {
     ghost coded = { world_code };
 
     ghost use Rattle.worlds.specs.EntryLists.{grown, empty_world};
-    ghost use Rattle.worlds.specs.Indexes.{Answers};
     ghost use Rattle.worlds.specs.Words.{Knows};
 
-    ghost view = { λ s. grown s.entries empty_world };
+    ghost view = { λ s. grown s.newer (grown s.older.value empty_world) };
 
-    ghost invariant = { λ s. Answers s.index (grown s.entries empty_world) × Knows s.words.value };
+    ghost invariant = { λ s. Knows s.words.value };
+}
+
+/// How many entries a world seals at a time.
+pub(crate) const STEP: usize = 32;
+
+/// How many times a world with so many names seals more entries before all of them go into one block. The small block
+/// grows with the large one, so that the copies of both stay few; it has 4,096 entries at most, which bounds the recursion
+/// over them.
+fn turns(names: usize) -> usize {
+    (names / 8).max(256).min(4096) / STEP
 }
 
 impl Sealed {
@@ -57,12 +68,14 @@ impl Sealed {
     {
         let entries = with_theorems(alloc, Entries::new())?;
         let entries = with_definitions(alloc, entries)?;
-        let mut index = Index::new(alloc)?;
-        index.add_all(alloc, &entries)?;
+        let newer = Block::new(alloc)?;
+        let older = newer.with(alloc, &entries)?;
+        let until_joined = turns(older.len());
         Ok(Sealed {
             words: Rc::new(alloc, Words::new(alloc)?)?,
-            entries,
-            index,
+            older: Rc::new(alloc, older)?,
+            newer,
+            until_joined,
         })
     }
 
@@ -70,20 +83,24 @@ impl Sealed {
     pub(crate) fn with(&self, alloc: Global, recent: &Entries) -> Result<Sealed, Memory>
         ensures { IfOk result (λ w. w ≡ grown recent.now self.now) }
     {
-        let entries = self.entries.with_all(alloc, recent)?;
-        let mut index = self.index.copy()?;
-        index.add_all(alloc, recent)?;
+        let words = self.words.clone()?;
+        let newer = self.newer.with(alloc, recent)?;
+        if self.until_joined > 1 {
+            return Ok(Sealed {
+                words,
+                older: self.older.clone()?,
+                newer,
+                until_joined: self.until_joined - 1,
+            });
+        }
+        let older = self.older.with(alloc, newer.entries())?;
+        let until_joined = turns(older.len());
         Ok(Sealed {
-            words: self.words.clone()?,
-            entries,
-            index,
+            words,
+            older: Rc::new(alloc, older)?,
+            newer: Block::new(alloc)?,
+            until_joined,
         })
-    }
-
-    /// How many more entries a world may have before it is sealed anew. It grows with the names, so that all copies of
-    /// indexes together take time in proportion to them; no walk and no recursion is longer than 4,096 entries.
-    pub(crate) fn distance(&self) -> usize {
-        (self.index.len() / 16).max(128).min(4096)
     }
 
     /// The number of arguments of the primitive of this name.
@@ -104,33 +121,48 @@ impl Sealed {
     pub(crate) fn named(&self, name: &Symbol) -> Option<Named<'_>>
         ensures { Tells self.now name.now result }
     {
-        self.index.at(name).named(name)
+        match self.newer.named(name) {
+            Some(named) => Some(named),
+            None => self.older.named(name),
+        }
     }
 
+    #[tactic(auto, using(crate::proofs::Lookups::joined))]
     pub(crate) fn link(&self, theorem: &Symbol) -> Option<&Link>
         ensures { option_copied result ≡ lookup self.now.links theorem.now }
     {
-        self.index.at(theorem).link(theorem)
+        match self.newer.link(theorem) {
+            Some(link) => Some(link),
+            None => self.older.link(theorem),
+        }
     }
 
+    #[tactic(auto, using(crate::proofs::Lookups::joined))]
     pub(crate) fn instance(&self, of: &Symbol, pairs: &FunPairs) -> Option<&Symbol>
         ensures { option_copied result ≡ find_instance self.now.instances of.now pairs.now }
     {
-        self.index.at(of).instance(of, pairs)
+        match self.older.instance(of, pairs) {
+            Some(instance) => Some(instance),
+            None => self.newer.instance(of, pairs),
+        }
     }
 
+    #[tactic(auto, using(crate::proofs::Lookups::joined))]
     pub(crate) fn has_event(&self, form: &Form) -> bool
         requires { IsProper form.now }
         ensures { result ≡ has_event self.now.events (form_of form.now) }
     {
-        let name = event_key(form, &self.index.none);
-        self.index.at(name).has_event(form)
+        self.newer.has_event(form) || self.older.has_event(form)
     }
 
+    #[tactic(auto, using(crate::proofs::Lookups::joined))]
     pub(crate) fn defthm(&self, name: &Symbol) -> Option<&Form>
         ensures value { option_map form_of (option_copied result) ≡ find_defthm self.now.events name.now }
         ensures proper { IfSome result (λ f. IsProper f.now) }
     {
-        self.index.at(name).defthm(name)
+        match self.older.defthm(name) {
+            Some(form) => Some(form),
+            None => self.newer.defthm(name),
+        }
     }
 }

@@ -1,12 +1,21 @@
-use Rattle.std.proofs.Common.{subst}
-use Rattle.worlds.specs.Indexes.{AgreeAt, bucket_at}
-use Rattle.worlds.specs.Named.{Gives}
-use Rattle.worlds.proofs.Meanings.{told}
+use Rattle.std.proofs.Common.{subst, Some}
+use Rattle.worlds.specs.EntryLists.{grown, empty_world}
+use Rattle.worlds.specs.Named.{Gives, Tells}
+use Rattle.worlds.proofs.Meanings.{tells-newer, tells-older, tells-alone}
 use Rattle.worlds.proofs.sealed.Sealed.named.Goals as goal
 
-pub returns : goal.returns
-returns c =
+pub returns-in-Some : goal.returns-in-Some
+returns-in-Some c =
     let n = c.args.name.now in
-    let bucket = bucket_at c.self.inside.index n in
-    told n bucket c.args.self.now (subst (AgreeAt n bucket) c.self.view_is (c.self.invariant.0.at n)) c.named.result
-    (subst (λ es. Gives n es c.named.result) c.at.ensures c.named.ensures)
+    let before = grown c.self.inside.older.value empty_world in
+    subst (λ W. Tells W n (Some c.in-Some.named)) c.self.view_is
+    (tells-newer n c.self.inside.newer before c.in-Some.named (subst (Gives n c.self.inside.newer) c.in-Some.is c.named.ensures))
+
+pub returns-in-None : goal.returns-in-None
+returns-in-None c =
+    let n = c.args.name.now in
+    let answer = c.named-in-None.result in
+    let before = grown c.self.inside.older.value empty_world in
+    let given = subst (λ es. Gives n es answer) c.deref.ensures c.named-in-None.ensures in
+    subst (λ W. Tells W n answer) c.self.view_is
+    (tells-older n c.self.inside.newer before (subst (Gives n c.self.inside.newer) c.in-None.is c.named.ensures) answer (tells-alone n c.self.inside.older.value answer given))

@@ -1,21 +1,15 @@
-use Rattle.std.proofs.Common.{◌≡◌, ◌∙◌, ap, subst, sym}
-use Rattle.worlds.specs.EntryLists.{grown, empty_world}
-use Rattle.worlds.specs.Indexes.{Answers}
-use Rattle.worlds.specs.Words.{Knows}
-use Rattle.worlds.proofs.Buckets.{copied}
-use Rattle.worlds.proofs.Lookups.{grown-append}
+use Rattle.std.proofs.Common.{◌++◌, ◌∙◌, ap}
+use Rattle.worlds.proofs.Lookups.{grown-newer, grown-joined}
 use Rattle.worlds.proofs.sealed.Sealed.with.Goals as goal
 
-all : (c : goal.In_ok-clone) → grown c.in_ok-entries.entries empty_world ≡ grown c.args.recent.now (grown c.self.inside.entries empty_world)
-all c = ap (λ es. grown es empty_world) c.in_ok-entries.ensures ∙ grown-append c.args.recent.now c.self.inside.entries empty_world
-
-pub invariant_of-result : goal.invariant_of-result
-invariant_of-result c =
-    let before = grown c.self.inside.entries empty_world in (
-      subst (Answers c.add_all.new.self) (sym (all c))
-          (c.in_ok-add_all.ensures before (copied c.self.inside.index c.in_ok-index.index before c.in_ok-index.ensures c.self.invariant.0)),
-      subst Knows (sym c.in_ok-clone.ensures.cases) c.self.invariant.1,
-    )
+pub returns-then-self-gt1 : goal.returns-then-self-gt1
+returns-then-self-gt1 c =
+    grown-newer c.args.recent.now c.self.inside.newer c.in_ok-newer.newer c.self.inside.older.value c.in_ok-clone.field-0.value c.args.self.now
+    c.in_ok-newer.ensures c.in_ok-clone.ensures.cases c.self.view_is
 
 pub returns : goal.returns
-returns c = all c ∙ ap (grown c.args.recent.now) c.self.view_is
+returns c =
+    let newer = c.in_ok-newer.newer in
+    let older = c.in_ok-new.ensures.ok ∙ c.in_ok-older.ensures ∙ ap (λ es. es ++ c.deref.result.now) c.entries.ensures ∙ ap (λ es. newer ++ es) c.deref.ensures in
+    grown-joined c.args.recent.now c.self.inside.newer newer c.in_ok-new-2.field-0 c.self.inside.older.value c.in_ok-new.field-0.value c.args.self.now
+    c.in_ok-newer.ensures c.in_ok-new-2.ensures older c.self.view_is
