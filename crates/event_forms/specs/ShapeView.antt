@@ -3,7 +3,7 @@ use Rattle.std.specs.Prelude.{map, Option, option_map, IfSome}
 use Rattle.lisp_data.specs.FormView.{form_of, IsProper, AllProper}
 use Rattle.event_forms.specs.Shapes as spec
 use Rattle.event_forms.specs.declared.shapes.Event.{Event}
-use Rattle.event_forms.specs.declared.shapes.Event.TheVariants.{InPackage, IncludeBook, Defun, Defthm}
+use Rattle.event_forms.specs.declared.shapes.Event.TheVariants.{InPackage, IncludeBook, Defun, Defthm, ValueTriple}
 
 -- what f gives of a part that may be left out
 abbrev pub if_given : {A B : Type 0} → Option A → (A → B) → Option B
@@ -14,6 +14,7 @@ seen InPackage = spec.InPackage
 seen (IncludeBook book) = spec.IncludeBook book.now
 seen (Defun name formals body) = spec.Defun name.now (map form_of formals.now) (form_of body.now)
 seen (Defthm name formula proof) = spec.Defthm name.now (form_of formula.now) (if_given proof (λ p. form_of p.now))
+seen (ValueTriple form) = spec.ValueTriple (form_of form.now)
 
 -- the forms in it are proper
 abbrev pub HasProperParts : Event → Type 0
@@ -21,3 +22,4 @@ HasProperParts InPackage = Unit {0}
 HasProperParts (IncludeBook book) = Unit {0}
 HasProperParts (Defun name formals body) = AllProper formals.now × IsProper body.now
 HasProperParts (Defthm name formula proof) = IsProper formula.now × IfSome proof (λ p. IsProper p.now)
+HasProperParts (ValueTriple form) = IsProper form.now
