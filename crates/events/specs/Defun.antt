@@ -1,5 +1,5 @@
 -- `defun`: a function, whose conditions are what its measure owes.
-use Rattle.std.specs.Prelude.{ℕ, ◌+◌, List, [], ◌∷◌, ◌++◌, codes}
+use Rattle.std.specs.Prelude.{ℕ, ◌+◌, List, [], ◌∷◌, ◌++◌, codes, None}
 use Rattle.std.specs.Fmt.{decimal}
 use Rattle.lisp_data.specs.Values.{Name}
 use Rattle.lisp_data.specs.Datum.{Datum}
@@ -29,6 +29,7 @@ function_plan d = record { entries = Function d ∷ []; conditions = measure_con
 abbrev pub defun : Name → List Datum → Datum → Frame
 defun f formals body = record {
   title = codes "defun " ++ f;
+  prints = None;
   names = f ∷ [];
   repeats = AsForm;
   clauses = no_clauses;
