@@ -8,7 +8,7 @@ use Rattle.ports.specs.Streams.{Grows, GrowsByFront}
 use Rattle.ports.proofs.Streams.{Grows-trans}
 use Rattle.book_cli.specs.declared.progress.Progress.{Progress}
 use Rattle.book_cli.specs.Begun.{IsBegun}
-use Rattle.events.specs.Verdicts.{Verdict, Accepted, Redundant, Refused, verdict}
+use Rattle.events.specs.Verdicts.{Verdict, Accepted, Redundant, Printed, Refused, verdict}
 use Rattle.book_cli.specs.Report.{Read, IsNext, all_lines, after, is_refusal, goes_on, event_line, turn_lines, end_lines, report_from, world_from, accepts, last_line}
 
 module _ (a b c : Option (List ℕ)) where
@@ -53,11 +53,13 @@ on_err (Err e) p = p
 goes : (continues : Bool) (v : Verdict) (accepted : Bool) → accepted ≡ not (is_refusal v) → (accepted || continues) ≡ true → goes_on continues v ≡ true
 goes continues (Accepted next) accepted e h = refl
 goes continues Redundant accepted e h = refl
+goes continues (Printed v) accepted e h = refl
 goes continues (Refused why) accepted e h = ap (λ b. b || continues) (sym e) ∙ h
 
 stops : (continues : Bool) (v : Verdict) (accepted : Bool) → accepted ≡ not (is_refusal v) → (accepted || continues) ≡ false → goes_on continues v ≡ false
 stops continues (Accepted next) accepted e h = absurd (cc)
 stops continues Redundant accepted e h = absurd (cc)
+stops continues (Printed v) accepted e h = absurd (cc)
 stops continues (Refused why) accepted e h = ap (λ b. b || continues) (sym e) ∙ h
 
 -- what comes after an event's lines
@@ -146,6 +148,7 @@ module _ (continues : Bool) (p q : Progress) (e : Datum × ℕ) (accepted : Bool
         kept : (v : Verdict) → goes_on continues v ≡ false → (after p v).world ≡ p.world
         kept (Accepted w) k = absurd (cc)
         kept Redundant k = absurd (cc)
+        kept (Printed v) k = absurd (cc)
         kept (Refused why) k = refl
 
     pub fewer : length read.0 ≡ length rest.0 + 1
@@ -158,6 +161,7 @@ module _ (continues : Bool) (p q : Progress) (e : Datum × ℕ) (accepted : Bool
       one : (v : Verdict) → (after p v).handled ≡ p.handled + 1
       one (Accepted w) = refl
       one Redundant = refl
+      one (Printed v) = refl
       one (Refused why) = refl
 
   pub counted_within : p.counted ≤ p.handled → q.counted ≤ q.handled
@@ -166,6 +170,7 @@ module _ (continues : Bool) (p q : Progress) (e : Datum × ℕ) (accepted : Bool
       within : (v : Verdict) → (after p v).counted ≤ (after p v).handled
       within (Accepted w) = omega (arith, h)
       within Redundant = omega (arith, h)
+      within (Printed v) = omega (arith, h)
       within (Refused why) = omega (arith, h)
 
 -- all were accepted so far, and whether the next was

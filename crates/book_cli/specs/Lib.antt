@@ -1,4 +1,5 @@
 pub mod Report
+pub mod Values
 pub mod Begun
 pub mod Outcomes
 pub mod CommandLines

@@ -5,6 +5,7 @@ use Rattle.ports.specs.ReadAll.{IsWhole}
 use Rattle.lisp_reader.specs.Grammar.{book_of}
 use Rattle.terms.specs.Sound.{Sound}
 use Rattle.book_cli.specs.Report.{Read, report_of, accepts_all, world_made, report, is_accepted, world_of}
+use Rattle.book_cli.specs.Values.{ValuesAreTrue}
 use Rattle.book_cli.specs.declared.limits.TheConstants.{MAX_BOOK}
 use Rattle.book_cli.specs.declared.status.Status.{Status}
 use Rattle.book_cli.specs.declared.status.Status.TheVariants.{Accepted, Refused, Usage, ReadFault, WriteFault, Memory}
@@ -64,22 +65,24 @@ pub record IsReported (continues : Bool) (before after : Option (List ℕ)) (rea
   pub sound : Sound (world_made continues read)
 
 -- The whole book was read, where it is told it was this one and nothing of it is left, its report was written, none of its events is refused,
--- and its world is sound.
+-- its world is sound, and each value that it prints is the model's.
 pub record IsAcceptedRun (continues : Bool) (left left_after held held_after : Option (List ℕ)) : Type 0 where
   pub book : List ℕ
   pub whole : IsWhole left left_after MAX_BOOK book
   pub written : Grows held held_after (report continues book)
   pub none_refused : is_accepted book ≡ true
   pub sound : Sound (world_of continues book)
+  pub values : ValuesAreTrue continues (book_of book)
 
--- What was read is the book's, where the book is told; its whole report was written, with a refused line, and the world that it made is
--- sound.
+-- What was read is the book's, where the book is told; its whole report was written, with a refused line, the world that it made is sound, and
+-- each value that it prints is the model's.
 pub record IsRefusedRun (continues : Bool) (left held held_after : Option (List ℕ)) : Type 0 where
   pub read : Read
   pub of_book : IfSome left (λ book. book_of book ≡ read)
   pub written : Grows held held_after (report_of continues read)
   pub one_refused : accepts_all read ≡ false
   pub sound : Sound (world_made continues read)
+  pub values : ValuesAreTrue continues read
 
 -- how a run of a mode line ends without a fault: accepted where the book is, else refused; or out of memory
 abbrev pub IsSureEnd : (accepted : Bool) → Status → Type 0

@@ -10,8 +10,8 @@ use Rattle.terms.specs.Sound.{initial_world}
 use Rattle.worlds.specs.Entries.{further_theorems}
 use Rattle.book_cli.specs.declared.progress.Progress.{Progress}
 use Rattle.events.specs.declared.refusal.Refusal.TheVariants.{Coded}
-use Rattle.events.specs.Lines.{ok_line, redundant_line, refused_line}
-use Rattle.events.specs.Verdicts.{Verdict, Accepted, Redundant, Refused, verdict}
+use Rattle.events.specs.Lines.{ok_line, redundant_line, value_line, refused_line}
+use Rattle.events.specs.Verdicts.{Verdict, Accepted, Redundant, Printed, Refused, verdict}
 
 -- forms with the places of their first bytes, and the first fault with its place, or the end
 abbrev pub Read : Type 0
@@ -21,15 +21,17 @@ Read = List (Datum × ℕ) × Option (Code × ℕ)
 abbrev pub begin : Progress
 begin = record { world = initial_world; handled = 0; counted = 0 }
 
--- a redundant or refused event leaves the world, and a refused one doesn't count
+-- a redundant or refused event leaves the world, as a printed value does, and a refused one doesn't count
 abbrev pub after : Progress → Verdict → Progress
 after p (Accepted next) = record { world = next; handled = p.handled + 1; counted = p.counted + 1 }
 after p Redundant = record { world = p.world; handled = p.handled + 1; counted = p.counted + 1 }
+after p (Printed v) = record { world = p.world; handled = p.handled + 1; counted = p.counted + 1 }
 after p (Refused why) = record { world = p.world; handled = p.handled + 1; counted = p.counted }
 
 abbrev pub is_refusal : Verdict → Bool
 is_refusal (Accepted next) = false
 is_refusal Redundant = false
+is_refusal (Printed v) = false
 is_refusal (Refused why) = true
 
 -- the progress after an event, and whether it wasn't refused
@@ -54,6 +56,7 @@ last_line p = codes "accepted " ++ (decimal p.counted ++ (codes " events " ++ (d
 abbrev pub verdict_line : Verdict → Datum × ℕ → ℕ → List ℕ
 verdict_line (Accepted next) e index = ok_line e.0
 verdict_line Redundant e index = redundant_line e.0
+verdict_line (Printed v) e index = value_line v
 verdict_line (Refused why) e index = refused_line index why e.1
 
 -- the line of an event

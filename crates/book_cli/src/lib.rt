@@ -1,6 +1,7 @@
 //! Books: their report, and the run of the program.
 #![tactic(auto)]
 
+mod laws;
 mod limits;
 mod program;
 mod progress;

@@ -8,6 +8,7 @@ ghost use Rattle.book_cli.specs.CommandLines.{IsModeLine, continues};
 ghost use Rattle.book_cli.specs.Report.{is_accepted, report, report_of};
 ghost use Rattle.book_cli.specs.Outcomes.{IsAcceptedRun, IsRefusedRun, IsReported, IsReportStatus, IsOfModeLine, IsSureEnd, IsUntouched, is_cut};
 
+use crate::laws::printed_values_are_true;
 use crate::limits::MAX_BOOK;
 use crate::report::write_report;
 use crate::status::{Status, status_of};
@@ -39,10 +40,11 @@ pub fn run<B: Source, L: Source, K: Sink, P: Sink>(
     ensures old_log_untouched { IsUntouched (L.left old_log.old) (L.left old_log.new) (L.faults old_log.old) (L.faults old_log.new) }
     ensures new_log_untouched { IsUntouched (P.held new_log.old) (P.held new_log.new) (P.faults new_log.old) (P.faults new_log.new) }
 
-    // What is accepted is true: the whole book was read, its report was written, and each theorem of its world holds.
+    // What is accepted is true: the whole book was read, its report was written, each theorem of its world holds, and each value that it
+    // prints is the model's.
     ensures accepted { result ≡ Status.Accepted → IsAcceptedRun (continues words.now) (B.left book.old) (B.left book.new) (K.held out.old) (K.held out.new) }
 
-    // The whole report was written, with its refused line.
+    // The whole report was written, with its refused line; each value that it prints is the model's.
     ensures refused { result ≡ Status.Refused → IsRefusedRun (continues words.now) (B.left book.old) (K.held out.old) (K.held out.new) }
 
     // Where the words are a mode line and no count of faults rises, the book is accepted or refused as it is, or there was no memory.
@@ -80,6 +82,7 @@ fn check_book<B: Source, K: Sink>(
     ensures read_fault_untouched { result ≡ Status.ReadFault → IsUntouched (K.held out.old) (K.held out.new) (K.faults out.old) (K.faults out.new) }
     ensures write_fault { result ≡ Status.WriteFault → Rose (K.faults out.old) (K.faults out.new) }
 {
+    printed_values_are_true();
     match read_all(alloc, book, MAX_BOOK) {
         Ok(bytes) => report_bytes(alloc, bytes.as_slice(), false, continues, out),
         Err(error) => match error {

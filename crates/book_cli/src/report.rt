@@ -46,7 +46,7 @@ fn handle<K: Sink>(
             progress.counted += 1;
             Ok(true)
         }
-        StepAnswer::Redundant(lines) => {
+        StepAnswer::Redundant(lines) | StepAnswer::Printed(lines) => {
             write_lines(lines.as_slice(), out)?;
             progress.handled += 1;
             progress.counted += 1;
@@ -57,7 +57,6 @@ fn handle<K: Sink>(
             progress.handled += 1;
             Ok(false)
         }
-        StepAnswer::Printed(_) => unreachable!(),
     }
 }
 

@@ -5,7 +5,7 @@ use Rattle.event_forms.specs.Clauses.{clauses_in}
 use Rattle.event_forms.specs.Shapes as spec
 use Rattle.event_forms.specs.declared.shapes.Event.{Event}
 use Rattle.event_forms.specs.declared.shapes.FunctionParts.{FunctionParts}
-use Rattle.event_forms.specs.declared.shapes.Event.TheVariants.{InPackage, IncludeBook, Defun, Defthm}
+use Rattle.event_forms.specs.declared.shapes.Event.TheVariants.{InPackage, IncludeBook, Defun, Defthm, ValueTriple}
 
 -- what f gives of a part that may be left out
 abbrev pub if_given : {A B : Type 0} → Option A → (A → B) → Option B
@@ -25,6 +25,7 @@ seen InPackage = spec.InPackage
 seen (IncludeBook book) = spec.IncludeBook book.now
 seen (Defun function) = spec.Defun (function_seen function)
 seen (Defthm name formula proof) = spec.Defthm name.now (form_of formula.now) (if_given proof (λ p. form_of p.now))
+seen (ValueTriple form) = spec.ValueTriple (form_of form.now)
 
 -- the forms in it are proper
 pub record IsProperFunction (f : FunctionParts) : Type 0 where
@@ -38,3 +39,4 @@ HasProperParts InPackage = Unit {0}
 HasProperParts (IncludeBook book) = Unit {0}
 HasProperParts (Defun function) = IsProperFunction function
 HasProperParts (Defthm name formula proof) = IsProper formula.now × IfSome proof (λ p. IsProper p.now)
+HasProperParts (ValueTriple form) = IsProper form.now

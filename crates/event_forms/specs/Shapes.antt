@@ -19,12 +19,13 @@ pub record FunctionParts : Type 0 where
   pub measure : Option Datum
   pub proofs : List (Name × Datum)
 
--- An event's parts: of a theorem its name, its formula and its proof, if it has one.
+-- An event's parts: of a theorem its name, its formula and its proof, if it has one, of a value-triple the form whose value it prints.
 pub data Event : Type 0 where
   InPackage : Event
   IncludeBook : (book : List ℕ) → Event
   Defun : (function : FunctionParts) → Event
   Defthm : (name : Name) (formula : Datum) (proof : Option Datum) → Event
+  ValueTriple : (form : Datum) → Event
 
 -- the books that may be included
 unfoldable pub books : List (List ℕ)
@@ -87,6 +88,11 @@ abbrev pub defthm_of : List Datum → Outcome Event
 defthm_of [] = bad_part (codes "arguments")
 defthm_of (n ∷ parts) = and_then (name_of n) (λ n. defthm_after n parts)
 
+-- `(value-triple form)`
+abbrev pub value_triple : List Datum → Outcome Event
+value_triple (form ∷ []) = Ok (ValueTriple form)
+value_triple _ = bad_part (codes "arguments")
+
 -- keys that aren't there yet make a form no event, whatever else is wrong with it
 abbrev pub is_early_defun : List Datum → Bool
 is_early_defun (f ∷ xs ∷ p ∷ ps) = declares_unbuilt p ps
@@ -111,6 +117,7 @@ by_parts (Some (word ∷ parts)) =
     else if is_word (codes "DEFTHM") word then defthm parts
     else if is_word (codes "IN-PACKAGE") word then in_package parts
     else if is_word (codes "INCLUDE-BOOK") word then include_book parts
+    else if is_word (codes "VALUE-TRIPLE") word then value_triple parts
     else not_an_event
 
 -- the event that a form is, or the first refusal of its shape, from left to right

@@ -36,6 +36,8 @@ pub enum Event<'a> {
     Defun(FunctionParts<'a>),
     /// A theorem: its name, its formula and its proof, if it has one.
     Defthm(&'a Symbol, &'a Form, Option<&'a Form>),
+    /// The form whose value is printed.
+    ValueTriple(&'a Form),
 }
 
 /// The books that may be included.
@@ -223,6 +225,18 @@ fn is_early_defthm(parts: &[Form]) -> bool
     }
 }
 
+/// `(value-triple form)`.
+fn value_triple<'a>(alloc: Global, parts: &'a [Form]) -> Result<Event<'a>, EventError>
+    requires { AllProper parts.now }
+    ensures event { Says seen (spec.value_triple (map form_of parts.now)) result }
+    ensures proper { IfOk result HasProperParts }
+{
+    match parts {
+        [form] => Ok(Event::ValueTriple(form)),
+        _ => Err(EventError::bad_part(alloc, "arguments")),
+    }
+}
+
 /// The event that a form is, or the first refusal of its shape, which is read from left to right (docs/EVENTS.md).
 pub fn read_event(alloc: Global, form: &Form) -> Result<Event<'_>, EventError>
     requires { IsProper form.now }
@@ -240,6 +254,8 @@ pub fn read_event(alloc: Global, form: &Form) -> Result<Event<'_>, EventError>
         in_package(alloc, parts)
     } else if is_word(word, "INCLUDE-BOOK") {
         include_book(alloc, parts)
+    } else if is_word(word, "VALUE-TRIPLE") {
+        value_triple(alloc, parts)
     } else {
         Err(EventError::not_an_event())
     }

@@ -1,5 +1,6 @@
 -- A lawful event that is accepted in a sound world makes a sound world.
 use Rattle.std.proofs.Common.{◌≡◌, Bool, true, false, if◌then◌else◌, List, [], ◌∷◌, Option, Some, None, Ok, Err, refl, ap, sym, ◌∙◌, subst}
+use Rattle.lisp_data.specs.Values.{Val}
 use Rattle.lisp_data.specs.Datum.{Datum}
 use Rattle.terms.specs.Worlds.{World, Each, Holds}
 use Rattle.terms.specs.Sound.{Sound}
@@ -17,7 +18,7 @@ use Rattle.events.specs.declared.clauses.Way.TheVariants.{ByProof, Unproved}
 use Rattle.plans.specs.Entries.{add_entries}
 use Rattle.events.specs.Redundancy.{is_redundant}
 use Rattle.events.specs.Frames.{Judged, coded, goes_on, Clauses, Frame}
-use Rattle.events.specs.Verdicts.{Accepted, Redundant, new_names, of_conditions, way_by, clause_of, ways, by_conclusion, by_way, all_proved, proved, checked, made, ended}
+use Rattle.events.specs.Verdicts.{Accepted, Redundant, new_names, of_conditions, way_by, clause_of, ways, by_conclusion, by_way, all_proved, proved, checked, made, printed, ended}
 use Rattle.events.specs.Laws.{IsLawful, AcceptedIsSound}
 use Rattle.events.proofs.Inversions.{then_ok, map_ok, goes_ok, coded_ok}
 use Rattle.plans.specs.Proving.{proves}
@@ -70,9 +71,15 @@ module _ (W : World) (sound : Sound W) where
         hold = subst (λ p. Each (λ c. Holds W.functions c.sequent) p.conditions) d.0 d.1;
       }
 
-  by_end : (form : Datum) (e : Frame) → IsLawful e → (next : World) (o : Judged Plan) → checked W e ≡ o → ended W form o ≡ Accepted next → Sound next
-  by_end form e lawful next (Err why) is h = absurd (cc)
-  by_end form e lawful next (Ok p) is h =
+  -- what prints makes no world
+  never_made : (o : Judged Val) (next : World) → printed o ≡ Accepted next → ⊥
+  never_made (Ok v) next h = cc
+  never_made (Err why) next h = cc
+
+  by_end : (form : Datum) (e : Frame) → IsLawful e → (next : World) (prints : Option (World → Judged Val)) (o : Judged Plan) → checked W e ≡ o → ended W form prints o ≡ Accepted next → Sound next
+  by_end form e lawful next prints (Err why) is h = absurd (cc)
+  by_end form e lawful next (Some value) (Ok p) is h = absurd (never_made (value W) next h)
+  by_end form e lawful next None (Ok p) is h =
       let same : made W form p ≡ next = cc in
       let c = checked_plan e p is in
       let l = lawful W sound c.names p c.plan in
@@ -81,6 +88,6 @@ module _ (W : World) (sound : Sound W) where
 pub accepted_is_sound : AcceptedIsSound
 accepted_is_sound W sound form e lawful next h = by_redundant (is_redundant W form e.repeats) h
   where
-    by_redundant : (b : Bool) → (if b then Redundant else ended W form (checked W e)) ≡ Accepted next → Sound next
+    by_redundant : (b : Bool) → (if b then Redundant else ended W form e.prints (checked W e)) ≡ Accepted next → Sound next
     by_redundant true h' = absurd (cc)
-    by_redundant false h' = by_end W sound form e lawful next (checked W e) refl h'
+    by_redundant false h' = by_end W sound form e lawful next e.prints (checked W e) refl h'

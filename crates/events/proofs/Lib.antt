@@ -3,6 +3,7 @@ pub mod FormalLemmas
 pub mod WellFormed
 pub mod Accepted
 pub mod Counted
+pub mod Printed
 pub mod Lawful
 pub mod HandleLemmas
 pub mod StepLemmas

@@ -35,6 +35,11 @@ pub mapped_refusal : {A : Type 0} (f : Tm → A) (o : Outcome Tm) (t : TermError
 mapped_refusal f o (term.Refused code d) h e is = subst (IsRefusal (map_outcome f o)) (sym is) (ap (map_outcome f) e)
 mapped_refusal f o term.Memory h e is = subst (IsRefusal (map_outcome f o)) (sym is) tt
 
+-- a term's error is the refusal of the term
+pub first_refusal : (o : Outcome Tm) (t : TermError) (h : Halt) → SaysOutcome {A = Tm} o (Err t) → IsFromTerm t h → IsRefusal o h
+first_refusal o (term.Refused code d) h e is = subst (IsRefusal o) (sym is) e
+first_refusal o term.Memory h e is = subst (IsRefusal o) (sym is) tt
+
 pub by_error : {A B : Type 0} (seen : A → B) (o : Outcome B) (r : Result A Halt) (P : Halt → Type 0) → IsErr r × IsErrAnd r P → ((h : Halt) → P h → IsRefusal o h) → Reads seen o r
 by_error seen o (Ok x) P h f = absurd h.1
 by_error seen o (Err e) P h f = f e h.1
@@ -58,7 +63,11 @@ module _ (W : World) (form : Datum) (place index : ℕ) where
         verdict_is = ap (verdict.by_shape W form) is ∙ h.0;
         lines_are = h.1 ∙ ap (λ o. text_of (codes "redundant ") o ∷ []) (sym is);
       }
-      by_shape_of (Ok event) is (answer.Printed lines) h = absurd h
+      by_shape_of (Ok event) is (answer.Printed lines) h = record {
+        value = h.value;
+        verdict_is = ap (verdict.by_shape W form) is ∙ h.verdict_is;
+        lines_are = h.lines_are;
+      }
       by_shape_of (Ok event) is (answer.Refused code lines) h = absurd h
       by_shape_of (Err e) is a h = absurd h
 

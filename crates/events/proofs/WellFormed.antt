@@ -20,6 +20,8 @@ use Rattle.terms.specs.Sound.{Sound}
 use Rattle.term_forms.specs.Translation.{Takes, and_then, map_outcome, distinct_after, translate}
 use Rattle.term_forms.specs.TranslationLaws.{HasWords, TranslatedTermsFit}
 use Rattle.terms.specs.declared.definition.Definition.{Definition}
+use Rattle.evaluator.specs.Laws.{IsGround}
+use Rattle.events.specs.ValueTriple.{ground_term}
 use Rattle.terms.proofs.Extend.{over_map, arity_later}
 use Rattle.terms.proofs.Later.{has_basics, has_append}
 use Rattle.terms.proofs.Meaning.{arity_defined}
@@ -280,6 +282,11 @@ module _ (fit : TranslatedTermsFit) (W : World) (sound : Sound W) where
   pub formula_fits : (form : Datum) (t : Tm) → translate (arity W.functions) any form ≡ Ok t → Fits W.functions t
   formula_fits form t e =
       over_map (λ x. any x ≡ true) (λ x. Unit {0}) _ _ (λ x p. tt) (λ g k h. h) t (fit (arity W.functions) (words W sound) any form t e).fits
+
+  -- the term of a form without variables is ground
+  pub is_ground : (form : Datum) (t : Tm) → ground_term W form ≡ Ok t → IsGround W.functions t
+  is_ground form t e =
+      over_map (λ x. is_in [] x ≡ true) (λ x. ⊥) _ _ (λ x p. cc) (λ g k h. h) t (fit (arity W.functions) (words W sound) (is_in []) form t e).fits
 
 -- a name that may be given is free
 pub name_is_free : (W : World) (f : Name) → new_name W f ≡ Ok tt → is_free W f ≡ true

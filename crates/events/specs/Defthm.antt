@@ -35,6 +35,7 @@ goal_clauses (Some text) = record { proofs = (codes ":GOAL", text) ∷ [] }
 abbrev pub defthm : Name → Datum → Option Datum → Frame
 defthm n formula proof = record {
   title = codes "defthm " ++ n;
+  prints = None;
   names = n ∷ [];
   repeats = AsTheorem n formula;
   clauses = goal_clauses proof;

@@ -1,5 +1,5 @@
 -- `defun`: a function, whose conditions are what its measure owes.
-use Rattle.std.specs.Prelude.{ℕ, ◌+◌, List, [], ◌∷◌, ◌++◌, codes}
+use Rattle.std.specs.Prelude.{ℕ, ◌+◌, List, [], ◌∷◌, ◌++◌, codes, None}
 use Rattle.std.specs.Fmt.{decimal}
 use Rattle.terms.specs.Measures.{obligations}
 use Rattle.term_forms.specs.Translation.{map_outcome}
@@ -36,6 +36,7 @@ function_plan d = record { entries = Function d ∷ []; conditions = measure_con
 abbrev pub defun : FunctionParts → Frame
 defun p = record {
   title = codes "defun " ++ p.name;
+  prints = None;
   names = p.name ∷ [];
   repeats = AsForm;
   clauses = record { proofs = p.proofs };

@@ -1,6 +1,6 @@
 -- What the handling of events has to know of an event, whatever its kind.
-use Rattle.std.specs.Prelude.{ℕ, List, [], Result, Ok, Err}
-use Rattle.lisp_data.specs.Values.{Name}
+use Rattle.std.specs.Prelude.{ℕ, List, [], Option, Result, Ok, Err}
+use Rattle.lisp_data.specs.Values.{Name, Val}
 use Rattle.lisp_data.specs.Datum.{Datum}
 use Rattle.terms.specs.Worlds.{World}
 use Rattle.term_forms.specs.Translation.{Outcome}
@@ -37,9 +37,10 @@ no_clauses = record { proofs = [] }
 
 -- An event: its word and name as lines have them, its new names in order, when it repeats an earlier one, and how its conditions are proved. The
 -- plan is what the event makes and what has to be proved for it, or the first refusal of its own checks; it is asked for where the new names
--- are free.
+-- are free. An event that prints makes nothing: it gives a value, or a refusal, once its plan has passed.
 pub record Frame : Type 0 where
   pub title : List ℕ
+  pub prints : Option (World → Judged Val)
   pub names : List Name
   pub repeats : Repeats
   pub clauses : Clauses

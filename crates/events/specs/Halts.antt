@@ -2,13 +2,17 @@
 use Rattle.std.specs.Prelude.{◌≡◌, ℕ, Bool, true, if◌then◌else◌, bytes_eq, codes, List, [], ◌∷◌, ◌++◌, map, Option, Some, None, Result, Ok, Err}
 use Rattle.lisp_data.specs.FormView.{form_of, IsProper, AllProper}
 use Rattle.lisp_data.specs.Datum.{Datum}
-use Rattle.lisp_data.specs.Values.{Name}
+use Rattle.lisp_data.specs.Values.{Name, Val}
 use Rattle.lisp_data.specs.declared.code.Code.{Code}
+use Rattle.lisp_data.specs.declared.code.Code.TheVariants as code
 use Rattle.lisp_data.specs.declared.detail.Detail.{Detail}
+use Rattle.lisp_data.specs.declared.detail.Detail.TheVariants as detail
 use Rattle.terms.specs.Worlds.{World}
 use Rattle.term_forms.specs.Translation.{Outcome, map_outcome}
 use Rattle.term_forms.specs.declared.translation.TermError.{TermError}
 use Rattle.term_forms.specs.declared.translation.TermError.TheVariants as term
+use Rattle.evaluator.specs.declared.errors.EvalError.{EvalError}
+use Rattle.evaluator.specs.declared.errors.EvalError.TheVariants as eval
 use Rattle.kernel.specs.Conclusion.{Conclusion}
 use Rattle.kernel.specs.declared.errors.RuleName.{RuleName}
 use Rattle.event_forms.specs.Clauses.{clauses_in}
@@ -37,7 +41,7 @@ use Rattle.events.specs.Frames.{Judged, Frame}
 use Rattle.events.specs.Kinds.{frame_of}
 use Rattle.events.specs.Verdicts as verdict
 use Rattle.events.specs.Verdicts.{is_condition, by_way, all_proved, checked, verdict_of}
-use Rattle.events.specs.Lines.{event_text}
+use Rattle.events.specs.Lines.{event_text, value_line}
 use Rattle.events.specs.declared.handle.EventProofs.{EventProofs}
 
 -- the refusal has this code and this detail, or it is want of memory
@@ -84,6 +88,13 @@ IsFromProof proof.Memory e = e ≡ Memory
 abbrev pub IsFromTerm : TermError → Halt → Type 0
 IsFromTerm (term.Refused code detail) e = e ≡ Refused (Coded code detail)
 IsFromTerm term.Memory e = e ≡ Memory
+
+abbrev pub IsFromEvaluation : EvalError → Halt → Type 0
+IsFromEvaluation (eval.HasFunctionVariables f) e = e ≡ Refused (Coded code.HasFunctionVariables (detail.Name f))
+IsFromEvaluation eval.TooManyCalls e = e ≡ Refused (Coded code.EvalTooManyCalls detail.Absent)
+IsFromEvaluation eval.TooWide e = e ≡ Refused (Coded code.EvalTooWide detail.Absent)
+IsFromEvaluation eval.TooLarge e = e ≡ Refused (Coded code.EvalTooLarge detail.Absent)
+IsFromEvaluation eval.Memory e = e ≡ Memory
 
 -- what the code's clauses are seen as
 abbrev pub clauses_seen : Clauses → frames.Clauses
@@ -163,11 +174,17 @@ pub record IsTaken (W : World) (form : Datum) (e : Frame) (next : World) (lines 
   pub lines_are : lines ≡ event_text (codes "ok ") e ∷ []
   pub proved : AreProofs W plan proofs.before proofs.after
 
+-- an event prints this value, and has this line
+pub record IsShown (W : World) (form : Datum) (e : Frame) (lines : List (List ℕ)) : Type 0 where
+  pub value : Val
+  pub verdict_is : verdict_of W form e ≡ verdict.Printed value
+  pub lines_are : lines ≡ value_line value ∷ []
+
 -- the answer to an event is its verdict's, with its line; a refusal has none yet
 abbrev pub Handles : World → Datum → Frame → Result StepAnswer Halt → Type 0
 Handles W form e (Ok (answer.Accepted next lines proofs)) = IsTaken W form e next lines proofs
 Handles W form e (Ok (answer.Redundant lines)) = (verdict_of W form e ≡ verdict.Redundant) × (lines ≡ event_text (codes "redundant ") e ∷ [])
-Handles W form e (Ok (answer.Printed lines)) = ⊥
+Handles W form e (Ok (answer.Printed lines)) = IsShown W form e lines
 Handles W form e (Ok (answer.Refused code lines)) = ⊥
 Handles W form e (Err (Refused why)) = verdict_of W form e ≡ verdict.Refused why
 Handles W form e (Err Memory) = Unit {0}

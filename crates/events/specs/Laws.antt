@@ -1,13 +1,16 @@
 -- The laws of events.
 use Rattle.std.specs.Prelude.{◌≡◌, ℕ, ◌+◌, List, [], length, Ok}
+use Rattle.lisp_data.specs.Values.{Val}
 use Rattle.lisp_data.specs.Datum.{Datum}
 use Rattle.terms.specs.Worlds.{World}
 use Rattle.terms.specs.Sound.{Sound}
+use Rattle.event_forms.specs.Shapes.{ValueTriple, event_of}
 use Rattle.plans.specs.declared.plan.Plan.{Plan}
 use Rattle.plans.specs.Plans.{IsLawfulPlan}
 use Rattle.events.specs.declared.handle.EventProofs.{EventProofs}
 use Rattle.events.specs.Frames.{Frame}
-use Rattle.events.specs.Verdicts.{Accepted, new_names, verdict_of}
+use Rattle.events.specs.Verdicts.{Verdict, Accepted, Redundant, Printed, Refused, new_names, verdict_of, verdict}
+use Rattle.events.specs.ModelValues.{IsModelValue}
 use Rattle.events.specs.Steps.{IsAccepted}
 
 -- each plan that the event has in a sound world where its names are new is lawful
@@ -23,3 +26,18 @@ abbrev pub ProofForEach : Type 0
 ProofForEach =
     (W : World) (form : Datum) (next : World) (lines : List (List ℕ)) (proofs : EventProofs) → (a : IsAccepted W form next lines proofs) →
     (length proofs.before ≡ length a.plan.conditions + length a.plan.before) × (length proofs.after ≡ length a.plan.after)
+
+-- a value that is printed is the one that the form of a value-triple has in the model
+abbrev pub PrintedIsTrue : Type 0
+PrintedIsTrue =
+    (W : World) (form : Datum) (v : Val) → verdict W form ≡ Printed v → (part : Datum) × (event_of form ≡ Ok (ValueTriple part)) × IsModelValue W part v
+
+abbrev pub IsPrintedOrRefused : Verdict → Type 0
+IsPrintedOrRefused (Accepted next) = ⊥
+IsPrintedOrRefused Redundant = ⊥
+IsPrintedOrRefused (Printed v) = Unit {0}
+IsPrintedOrRefused (Refused why) = Unit {0}
+
+-- a value-triple prints a value, or is refused
+abbrev pub ValueTriplesPrint : Type 0
+ValueTriplesPrint = (W : World) (form part : Datum) → event_of form ≡ Ok (ValueTriple part) → IsPrintedOrRefused (verdict W form)

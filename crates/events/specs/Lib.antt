@@ -4,9 +4,11 @@ pub mod InPackage
 pub mod IncludeBook
 pub mod Defun
 pub mod Defthm
+pub mod ValueTriple
 pub mod Kinds
 pub mod Redundancy
 pub mod Verdicts
+pub mod ModelValues
 pub mod Refusals
 pub mod Lines
 pub mod Steps

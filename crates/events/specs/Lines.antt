@@ -1,7 +1,9 @@
 -- The lines of events.
 use Rattle.std.specs.Prelude.{ℕ, List, [], ◌++◌, Ok, Err, codes}
 use Rattle.std.specs.Fmt.{decimal}
+use Rattle.lisp_data.specs.Values.{Val}
 use Rattle.lisp_data.specs.Datum.{Datum}
+use Rattle.lisp_reader.specs.Printed.{value_text}
 use Rattle.term_forms.specs.Translation.{Outcome}
 use Rattle.event_forms.specs.Shapes.{Event, event_of}
 use Rattle.events.specs.declared.refusal.Refusal.{Refusal}
@@ -23,6 +25,9 @@ ok_line form = text_of (codes "ok ") (event_of form)
 
 abbrev pub redundant_line : Datum → List ℕ
 redundant_line form = text_of (codes "redundant ") (event_of form)
+
+abbrev pub value_line : Val → List ℕ
+value_line v = codes "value " ++ (value_text v ++ codes "\n")
 
 -- events are counted from 1, and places from 0
 abbrev pub refused_line : ℕ → Refusal → ℕ → List ℕ

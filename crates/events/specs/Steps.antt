@@ -1,5 +1,6 @@
 -- What the handling of one event answers.
 use Rattle.std.specs.Prelude.{◌≡◌, ℕ, List, [], ◌∷◌, Ok}
+use Rattle.lisp_data.specs.Values.{Val}
 use Rattle.lisp_data.specs.Datum.{Datum}
 use Rattle.lisp_data.specs.RefusalCodes.{number}
 use Rattle.terms.specs.Worlds.{World}
@@ -11,9 +12,9 @@ use Rattle.events.specs.declared.handle.EventProofs.{EventProofs}
 use Rattle.events.specs.declared.steps.StepAnswer.{StepAnswer}
 use Rattle.events.specs.declared.steps.StepAnswer.TheVariants as answer
 use Rattle.events.specs.Kinds.{frame_of}
-use Rattle.events.specs.Verdicts.{Accepted, Redundant, Refused, checked, verdict}
+use Rattle.events.specs.Verdicts.{Accepted, Redundant, Printed, Refused, checked, verdict}
 use Rattle.events.specs.Refusals.{refusal_code}
-use Rattle.events.specs.Lines.{ok_line, redundant_line, refused_line}
+use Rattle.events.specs.Lines.{ok_line, redundant_line, value_line, refused_line}
 
 -- An accepted event makes this world and has this line. Each condition of its plan, and each of the plan's claims, is proved: in order, those
 -- of the world before it, and those of the world with its functions.
@@ -31,6 +32,12 @@ pub record IsRedundant (W : World) (form : Datum) (lines : List (List ℕ)) : Ty
   pub verdict_is : verdict W form ≡ Redundant
   pub lines_are : lines ≡ redundant_line form ∷ []
 
+-- a value that is printed has this line
+pub record IsPrinted (W : World) (form : Datum) (lines : List (List ℕ)) : Type 0 where
+  pub value : Val
+  pub verdict_is : verdict W form ≡ Printed value
+  pub lines_are : lines ≡ value_line value ∷ []
+
 -- a refused event has this code and this line
 pub record IsRefused (W : World) (form : Datum) (place index code : ℕ) (lines : List (List ℕ)) : Type 0 where
   pub why : Refusal
@@ -38,9 +45,9 @@ pub record IsRefused (W : World) (form : Datum) (place index code : ℕ) (lines 
   pub code_is : code ≡ number (refusal_code why)
   pub lines_are : lines ≡ refused_line index why place ∷ []
 
--- the answer is the verdict's; no value is printed as yet
+-- the answer is the verdict's
 abbrev pub IsStep : World → Datum → ℕ → ℕ → StepAnswer → Type 0
 IsStep W form place index (answer.Accepted next lines proofs) = IsAccepted W form next lines proofs
 IsStep W form place index (answer.Redundant lines) = IsRedundant W form lines
-IsStep W form place index (answer.Printed lines) = ⊥
+IsStep W form place index (answer.Printed lines) = IsPrinted W form lines
 IsStep W form place index (answer.Refused code lines) = IsRefused W form place index code lines

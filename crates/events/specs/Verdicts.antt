@@ -1,6 +1,6 @@
 -- What becomes of an event: the checks in their order, whatever its kind.
 use Rattle.std.specs.Prelude.{ℕ, Bool, true, false, ◌&&◌, ◌||◌, if◌then◌else◌, bytes_eq, codes, List, [], ◌∷◌, ◌++◌, Option, Some, None, Ok, Err}
-use Rattle.lisp_data.specs.Values.{Name}
+use Rattle.lisp_data.specs.Values.{Name, Val}
 use Rattle.lisp_data.specs.Datum.{Datum}
 use Rattle.lisp_data.specs.declared.detail.Detail.TheVariants as detail
 use Rattle.lisp_data.specs.declared.code.Code.{Code}
@@ -29,10 +29,11 @@ use Rattle.events.specs.Frames.{Judged, coded, goes_on, Clauses, Frame}
 use Rattle.events.specs.Kinds.{frame_of}
 use Rattle.events.specs.Redundancy.{is_redundant}
 
--- accepted, with the world that it makes, accepted before, or refused
+-- accepted, with the world that it makes, accepted before, a value that is printed, or refused
 pub data Verdict : Type 0 where
   Accepted : (world : World) → Verdict
   Redundant : Verdict
+  Printed : (value : Val) → Verdict
   Refused : (why : Refusal) → Verdict
 
 -- A new name, after those that the event gave before it. It is opened only where it is needed, since its tests would stand in each goal.
@@ -114,13 +115,22 @@ checked W e = goes_on (coded (new_names W [] e.names)) (λ _. goes_on (e.plan W)
 abbrev pub made : World → Datum → Plan → World
 made W form p = add_event form (add_entries p.entries W)
 
-abbrev pub ended : World → Datum → Judged Plan → Verdict
-ended W form (Ok p) = Accepted (made W form p)
-ended W form (Err why) = Refused why
+abbrev pub printed : Judged Val → Verdict
+printed (Ok v) = Printed v
+printed (Err why) = Refused why
+
+-- an event that prints has its value for its end; another one makes what it plans
+abbrev pub ended_by : World → Datum → Option (World → Judged Val) → Plan → Verdict
+ended_by W form None p = Accepted (made W form p)
+ended_by W form (Some value) p = printed (value W)
+
+abbrev pub ended : World → Datum → Option (World → Judged Val) → Judged Plan → Verdict
+ended W form prints (Ok p) = ended_by W form prints p
+ended W form prints (Err why) = Refused why
 
 -- nothing more of an event is looked at where it was accepted before
 abbrev pub verdict_of : World → Datum → Frame → Verdict
-verdict_of W form e = if is_redundant W form e.repeats then Redundant else ended W form (checked W e)
+verdict_of W form e = if is_redundant W form e.repeats then Redundant else ended W form e.prints (checked W e)
 
 abbrev pub by_shape : World → Datum → Outcome Event → Verdict
 by_shape W form (Ok event) = verdict_of W form (frame_of event)

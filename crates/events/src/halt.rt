@@ -1,6 +1,7 @@
 //! What ends the handling of an event.
 
 use crate::refusal::Refusal;
+use evaluator::EvalError;
 use event_forms::EventError;
 use lisp_data::{Code, Detail, Symbol};
 use lists::{Memory, Text};
@@ -18,16 +19,26 @@ pub enum Halt {
 impl Halt {
     ghost use Rattle.lisp_data.specs.declared.detail.Detail.TheVariants.{Absent, Name, Word};
     ghost use Rattle.lisp_data.specs.declared.code.Code.TheVariants.{NotAnEvent, BadForm};
+    ghost use Rattle.std.specs.Prelude.{◌≡◌};
+    ghost use Rattle.events.specs.declared.halt.Halt.TheVariants.{Refused};
+    ghost use Rattle.events.specs.declared.refusal.Refusal.TheVariants.{Coded};
     ghost use Rattle.events.specs.Halts.{IsCoded};
+
+    /// A code says it all.
+    fn without_detail(code: Code) -> Halt
+        ensures { result ≡ Refused (Coded code Absent) }
+    {
+        Halt::Refused(Refusal::Coded {
+            code,
+            detail: Detail::Absent,
+        })
+    }
 
     /// The event isn't there yet.
     pub(crate) fn not_an_event() -> Halt
         ensures { IsCoded NotAnEvent Absent result }
     {
-        Halt::Refused(Refusal::Coded {
-            code: Code::NotAnEvent,
-            detail: Detail::Absent,
-        })
+        Halt::without_detail(Code::NotAnEvent)
     }
 
     /// A part of an event has another shape.
@@ -114,6 +125,25 @@ impl From<TermError> for Halt {
         match error {
             TermError::Refused { code, detail } => Halt::Refused(Refusal::Coded { code, detail }),
             TermError::Memory => Halt::Memory,
+        }
+    }
+}
+
+impl From<EvalError> for Halt {
+    ghost use Rattle.events.specs.Halts.{IsFromEvaluation};
+
+    ghost from_gives = { λ t e. IsFromEvaluation t e };
+
+    fn from(error: EvalError) -> Halt {
+        match error {
+            EvalError::HasFunctionVariables(name) => Halt::Refused(Refusal::Coded {
+                code: Code::HasFunctionVariables,
+                detail: Detail::Name(name),
+            }),
+            EvalError::TooManyCalls => Halt::without_detail(Code::EvalTooManyCalls),
+            EvalError::TooWide => Halt::without_detail(Code::EvalTooWide),
+            EvalError::TooLarge => Halt::without_detail(Code::EvalTooLarge),
+            EvalError::Memory => Halt::Memory,
         }
     }
 }

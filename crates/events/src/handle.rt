@@ -1,6 +1,6 @@
 //! The checks of an event in their order, whatever its kind, and what it makes.
 
-ghost use Rattle.std.specs.Prelude.{◌≡◌, codes, IfOk};
+ghost use Rattle.std.specs.Prelude.{◌≡◌, codes, IfOk, None};
 ghost use Rattle.lisp_data.specs.FormView.{form_of, IsProper};
 ghost use Rattle.terms.specs.Sound.{add_event};
 ghost use Rattle.plans.specs.Plans.{IsLawfulPlan, IsDirect};
@@ -108,7 +108,7 @@ fn judge<K: Kind>(alloc: Global, world: &World, event: &K) -> Result<Made, Halt>
     carry_out(alloc, world, &plan, &event.clauses())
 }
 
-/// Handles an event, from its redundancy on; a refusal has no line yet. An accepted event is kept in the world that it makes.
+/// Handles an event that prints nothing, from its redundancy on; a refusal has no line yet. An accepted event is kept in the world that it makes.
 pub(crate) fn handle<K: Kind>(
     alloc: Global,
     world: &World,
@@ -117,6 +117,7 @@ pub(crate) fn handle<K: Kind>(
 ) -> Result<StepAnswer, Halt>
     requires form { IsProper form.now }
     requires parts { K.proper event.now }
+    requires silent { (K.frame event.now).prints ≡ None }
     ensures { Handles world.now (form_of form.now) (K.frame event.now) result }
 {
     if is_redundant(alloc, world, form, &event.repeats())? {

@@ -4,3 +4,4 @@ pub(crate) mod defthm;
 pub(crate) mod defun;
 pub(crate) mod in_package;
 pub(crate) mod include_book;
+pub(crate) mod value_triple;

@@ -20,7 +20,7 @@ mod steps;
 mod tests;
 
 pub use handle::{EventProofs, ProvedList};
-pub use laws::{accepted_is_sound, proof_for_each};
+pub use laws::{accepted_is_sound, printed_is_true, proof_for_each, value_triples_print};
 pub use lines::refused_text;
 pub use refusal::Refusal;
 pub use steps::{Lines, StepAnswer, step};

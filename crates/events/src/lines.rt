@@ -1,11 +1,15 @@
 //! The lines of events.
 
 ghost use Rattle.std.specs.Prelude.{◌≡◌, ◌∷◌, [], IfOk};
+ghost use Rattle.lisp_data.specs.ValueView.{val_of};
+ghost use Rattle.events.specs.Lines as spec;
 ghost use Rattle.events.specs.Lines.{event_text, refused_line};
 
 use crate::kind::Kind;
 use crate::refusal::Refusal;
 use crate::steps::Lines;
+use lisp_data::Value;
+use lisp_reader::print_value;
 use lists::{Memory, Text};
 use std::alloc::Global;
 
@@ -23,6 +27,16 @@ pub(crate) fn event_line<K: Kind>(alloc: Global, begin: &str, event: &K) -> Resu
 {
     let mut text = Text::from_slice(alloc, begin.as_bytes())?;
     event.write_title(&mut text)?;
+    text.push(b'\n')?;
+    Ok(text)
+}
+
+/// The line of a value that is printed.
+pub(crate) fn value_line(alloc: Global, value: &Value) -> Result<Text, Memory>
+    ensures { IfOk result (λ text. text ≡ spec.value_line (val_of value.now)) }
+{
+    let mut text = Text::from_slice(alloc, b"value ")?;
+    print_value(value, &mut text)?;
     text.push(b'\n')?;
     Ok(text)
 }

@@ -12,6 +12,7 @@ use crate::kinds::defthm::Defthm;
 use crate::kinds::defun::Defun;
 use crate::kinds::in_package::InPackage;
 use crate::kinds::include_book::IncludeBook;
+use crate::kinds::value_triple;
 use crate::lines::{one_line, refused_text};
 use event_forms::{Event, read_event};
 use lisp_data::{Form, Memory};
@@ -77,5 +78,6 @@ fn answer(alloc: Global, world: &World, form: &Form) -> Result<StepAnswer, Halt>
             };
             handle(alloc, world, form, &event)
         }
+        Event::ValueTriple(part) => value_triple::print(alloc, world, part),
     }
 }

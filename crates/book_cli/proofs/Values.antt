@@ -1,0 +1,47 @@
+-- The values that are printed.
+use Rattle.std.proofs.Common.{◌≡◌, ℕ, ◌+◌, Bool, true, false, List, [], ◌∷◌, Ok, if◌then◌else◌, refl, ap, sym, ◌∙◌, subst}
+use Rattle.lisp_data.specs.Datum.{Datum}
+use Rattle.lisp_data.specs.Values.{Val}
+use Rattle.terms.specs.Worlds.{World, Each}
+use Rattle.event_forms.specs.Shapes.{ValueTriple, event_of}
+use Rattle.events.specs.Verdicts.{Verdict, Accepted, Redundant, Printed, Refused, verdict}
+use Rattle.events.specs.Laws.{PrintedIsTrue, IsPrintedOrRefused, ValueTriplesPrint}
+use Rattle.events.specs.ModelValues.{IsModelValue}
+use Rattle.book_cli.specs.declared.progress.Progress.{Progress}
+use Rattle.book_cli.specs.Report.{is_refusal, after, goes_on, verdict_line, event_line, begin}
+use Rattle.book_cli.specs.Values.{turns, IsValueLine, PrintsTheModel, PrintedValuesAreTrue}
+
+module _ (is_true : PrintedIsTrue) (prints : ValueTriplesPrint) where
+  -- the line of a value-triple that isn't refused
+  value_line_is : (p : Progress) (e : Datum × ℕ) (form : Datum) → event_of e.0 ≡ Ok (ValueTriple form) → is_refusal (verdict p.world e.0) ≡ false → IsValueLine p.world form (event_line p e)
+  value_line_is p e form is accepted = by_verdict (verdict p.world e.0) refl (prints p.world e.0 form is) accepted
+    where
+      by_verdict : (v : Verdict) → verdict p.world e.0 ≡ v → IsPrintedOrRefused v → is_refusal v ≡ false → IsValueLine p.world form (event_line p e)
+      by_verdict (Accepted next) v_is h a = absurd h
+      by_verdict Redundant v_is h a = absurd h
+      by_verdict (Refused why) v_is h a = absurd (cc)
+      by_verdict (Printed v) v_is h a =
+          let t = is_true p.world e.0 v v_is in
+          let same : t.0 ≡ form = cc (t.1, is) in
+          record {
+            value = v;
+            is_value = subst (λ part. IsModelValue p.world part v) same t.2;
+            line_is = ap (λ w. verdict_line w e (p.handled + 1)) v_is;
+          }
+
+  turn_is_true : (p : Progress) (e : Datum × ℕ) → PrintsTheModel p e
+  turn_is_true p e = record {
+    value_triple = value_line_is p e;
+    no_other = λ v h. (let t = is_true p.world e.0 v h in (t.0, t.1));
+  }
+
+  all_true : (continues : Bool) (p : Progress) (es : List (Datum × ℕ)) → Each (λ turn. PrintsTheModel turn.0 turn.1) (turns continues p es)
+  all_true continues p [] = tt
+  all_true continues p (e ∷ es) = (turn_is_true p e, by_test (goes_on continues (verdict p.world e.0)) (all_true continues (after p (verdict p.world e.0)) es))
+    where
+      by_test : (b : Bool) → Each (λ turn. PrintsTheModel turn.0 turn.1) (turns continues (after p (verdict p.world e.0)) es) → Each (λ turn. PrintsTheModel turn.0 turn.1) (if b then turns continues (after p (verdict p.world e.0)) es else [])
+      by_test true h = h
+      by_test false h = tt
+
+  pub values_are_true : PrintedValuesAreTrue
+  values_are_true continues read = all_true continues begin read.0
