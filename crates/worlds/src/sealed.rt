@@ -24,14 +24,15 @@ use std::marker::Model;
 use std::rc::Rc;
 use terms::{FunPairs, Link};
 
-/// A world of two blocks, a large one of older entries and a small one of those since, each with an index. To seal more
-/// entries copies the small index alone, but for each so many times. Contracts see it as a world.
+/// A world of two blocks, a large one of older entries and a small one of those since, each with an index. Sealing more
+/// entries copies the small index alone, until the small block has grown enough to join the large one. Contracts see it as
+/// a world.
 #[derive(Drop)]
 pub(crate) struct Sealed {
     words: Rc<Words>,
     older: Rc<Block>,
     newer: Block,
-    /// After so many more times all goes into the large block.
+    /// How many more times entries are sealed until the small block joins the large one.
     until_joined: usize,
 }
 
@@ -54,9 +55,8 @@ impl Model for Sealed {
 /// How many entries a world seals at a time.
 pub(crate) const STEP: usize = 32;
 
-/// How many times a world with so many names seals more entries before all of them go into one block. The small block
-/// grows with the large one, so that the copies of both stay few; it has 4,096 entries at most, which bounds the recursion
-/// over them.
+/// How many times a world with so many names seals more entries until they join the large block. The small block may
+/// grow with the names, so that both are copied seldom; it has at most 4,096 entries, which bounds the recursions over them.
 fn turns(names: usize) -> usize {
     (names / 8).max(256).min(4096) / STEP
 }
