@@ -12,13 +12,13 @@ pub enum Code {
     UnclosedList,
     /// A `)` where no list is open, or where a `'` waits for its form.
     StrayClose,
-    /// A point that can't stand there, or no single form behind it.
+    /// A point that can't stand there, or no single form after it.
     BadDot,
     /// A ratio, or a number with a point or an exponent.
     BadNumber,
     /// An integer of more than 128 bits.
     IntegerTooWide,
-    /// The 201st `(` or `'` that is open.
+    /// One `(` or `'` more than may be open at once.
     TooDeep,
     /// More bytes or more forms than a book may have.
     BookTooLong,

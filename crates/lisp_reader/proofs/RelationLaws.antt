@@ -24,7 +24,7 @@ use Rattle.lisp_reader.specs.declared.limits.TheConstants.{MAX_BOOK, MAX_FORMS, 
 -- What is read stands in the relation.
 
 -- what is read of t, if anything, and what follows it, are in R
-abbrev Found : (Datum → List ℕ → Type 0) → List ℕ → Read → Type 0
+abbrev pub Found : (Datum → List ℕ → Type 0) → List ℕ → Read → Type 0
 Found R t (Got f n) = R f (drop (n + 1) t)
 Found R t (Bad c n) = Unit {0}
 
@@ -42,7 +42,7 @@ found-same : (R S : Datum → List ℕ → Type 0) (t : List ℕ) (r : Read) →
 found-same R S t (Got f n) into p = into f _ p
 found-same R S t (Bad c n) into p = tt
 
-closes-are : (some : Bool) (u : List ℕ) (f : Front) → kind_of false some u f ≡ Closes → f ≡ Close
+pub closes-are : (some : Bool) (u : List ℕ) (f : Front) → kind_of false some u f ≡ Closes → f ≡ Close
 closes-are some u Nothing h = cc
 closes-are some u (Gap n) h = cc
 closes-are some u EndlessGap h = cc
@@ -161,7 +161,7 @@ found-items k forms some zero (b ∷ t) = on (kind false some (b ∷ t)) refl (f
         found-mapped (IsItems k true (drop n t)) (IsItems k some w) (PairForm f) w _ (λ d rest q. item first q)
         (found-shift (IsItems k true (drop n t)) w 1 _ (more n))
 
--- what is read behind a parenthesis or a quote
+-- what is read after a parenthesis or a quote
 found-list : (k : ℕ) (t : List ℕ) → ((d : ℕ) → k ≡ suc d → FormsFound d) → front (behind t) ≡ Open → Found (IsForm k t) (behind t) (list_in false k (behind t))
 found-list zero t below e = tt
 found-list (suc d) t below e =
@@ -195,17 +195,17 @@ found-one k inside t below = subst (Found (IsForm k t) t) (sym (form-one false i
     on (Atom n) e = by_leaf n (leaf false (take (n + 1) (behind t))) e refl
     on Stray e = tt
 
-found-form : (k : ℕ) (inside : Bool) (t : List ℕ) → Found (IsForm k t) t (form false inside k t)
+pub found-form : (k : ℕ) (inside : Bool) (t : List ℕ) → Found (IsForm k t) t (form false inside k t)
 found-form zero inside t = found-one zero inside t (λ d e. absurd (let k = e in cc))
 found-form (suc k) inside t = found-one (suc k) inside t (λ d e. (let same : k ≡ d = cc in subst FormsFound same (λ s. found-form k true s)))
 
 -- What stands in the relation is read.
 
-record Reads (r : Read) (t : List ℕ) (f : Datum) (rest : List ℕ) : Type 0 where
-  n : ℕ
-  got : r ≡ Got f n
-  far : rest ≡ drop (n + 1) t
-  room : n < length t
+pub record Reads (r : Read) (t : List ℕ) (f : Datum) (rest : List ℕ) : Type 0 where
+  pub n : ℕ
+  pub got : r ≡ Got f n
+  pub far : rest ≡ drop (n + 1) t
+  pub room : n < length t
 
 reads-same : (r s : Read) (t : List ℕ) (f : Datum) (rest : List ℕ) → r ≡ s → Reads s t f rest → Reads r t f rest
 reads-same r s t f rest e p = record { n = p.n; got = e ∙ p.got; far = p.far; room = p.room }
@@ -218,7 +218,7 @@ reads-shift r t k f rest p =
 reads-mapped : (h : Datum → Datum) (r : Read) (t : List ℕ) (f : Datum) (rest : List ℕ) → Reads r t f rest → Reads (mapped h r) t (h f) rest
 reads-mapped h r t f rest p = record { n = p.n; got = ap (mapped h) p.got; far = p.far; room = p.room }
 
--- There is room for what is at the front.
+-- There is room for what the text begins with.
 
 abbrev Room : ℕ → Front → Type 0
 Room n (Text m) = m < n
@@ -285,7 +285,7 @@ close-room (b ∷ u) e = omega arith
 gaps-room : (t : List ℕ) → 0 < length (behind t) → gaps t < length t
 gaps-room t h = omega (arith, length-drop (gaps t) t)
 
--- a form by what stands behind its gaps
+-- a form by what stands after its gaps
 reads-front : (k : ℕ) (inside : Bool) (t : List ℕ) (x : Front) (f : Datum) (rest : List ℕ) → front (behind t) ≡ x →
     Reads (one_by false inside (list_in false k) (mark_in false k) (behind t) x) (behind t) f rest → Reads (form false inside k t) t f rest
 reads-front k inside t x f rest e p =
@@ -307,7 +307,7 @@ got-room : (k : ℕ) (t : List ℕ) (f : Datum) (n : ℕ) → form false true k 
 got-room k [] f n h = absurd (let none : Bad UnclosedList 0 ≡ Got f n = sym (form-nil false true k) ∙ h in cc)
 got-room k (b ∷ t) f n h = omega arith
 
--- an item, and the items behind it
+-- an item, and the items after it
 reads-item : (k : ℕ) (some : Bool) (t : List ℕ) (f d : Datum) (middle rest : List ℕ) → IsForm k t f middle → Reads (form false true k t) t f middle →
     Reads (items false (form false true k) true 0 middle) middle d rest → Reads (items false (form false true k) some 0 t) t (PairForm f d) rest
 reads-item k some t f d middle rest p r q =
@@ -338,7 +338,7 @@ reads-last k t n f middle e h p r c =
     (reads-shift _ t (gaps t + 1) f rest (subst (λ (x : List ℕ). Reads (last false F x) x f rest) same ending))
 
 mutual
-  reads-form : {k : ℕ} {t : List ℕ} {f : Datum} {rest : List ℕ} → IsForm k t f rest → (inside : Bool) → Reads (form false inside k t) t f rest
+  pub reads-form : {k : ℕ} {t : List ℕ} {f : Datum} {rest : List ℕ} → IsForm k t f rest → (inside : Bool) → Reads (form false inside k t) t f rest
   reads-form (integer t n z e h) inside = reads-front _ inside t (Atom n) _ _ e (record { n = n; got = ap (λ l. leaf_read false l n) h; far = refl; room = atom-room (behind t) n e })
   reads-form (symbol t n s e h) inside = reads-front _ inside t (Atom n) _ _ e (record { n = n; got = ap (λ l. leaf_read false l n) h; far = refl; room = atom-room (behind t) n e })
   reads-form (string t n e) inside = reads-front _ inside t (Text n) _ _ e (record { n = n; got = refl; far = refl; room = string-room (behind t) n e })
@@ -358,7 +358,7 @@ and-false true = refl
 and-false false = refl
 
 -- a form may come
-free-form : (left : ℕ) (t : List ℕ) → next_form false (nat_eq (suc left) 0) t ≡ form false false MAX_NESTING t
+pub free-form : (left : ℕ) (t : List ℕ) → next_form false (nat_eq (suc left) 0) t ≡ form false false MAX_NESTING t
 free-form left t =
     let some : nat_eq (suc left) 0 ≡ false = grind (arith, nat_tests) in
     ap (λ c. cond (begins_form false (behind t) && c) (Bad BookTooLong (gaps t)) (form false false MAX_NESTING t)) some
@@ -369,12 +369,12 @@ nothing-there [] h = refl
 nothing-there (b ∷ u) h = absurd (let none : nat_eq (length (b ∷ u)) 0 ≡ false = grind (arith, nat_tests) in let k : true ≡ false = sym h ∙ none in cc)
 
 -- the place of a form is what stands before it
-place-is : (bytes place : ℕ) (t : List ℕ) → place + length t ≡ bytes → nat_eq (length (behind t)) 0 ≡ false → bytes - length (behind t) ≡ place + gaps t
+pub place-is : (bytes place : ℕ) (t : List ℕ) → place + length t ≡ bytes → nat_eq (length (behind t)) 0 ≡ false → bytes - length (behind t) ≡ place + gaps t
 place-is bytes place t whole some =
     let long : 0 < length (behind t) = grind (arith, nat_tests) in
     omega (arith, length-drop (gaps t) t)
 
--- so many bytes are left behind a form
+-- so many bytes are left after a form
 left-is : (bytes place n : ℕ) (t : List ℕ) → place + length t ≡ bytes → n < length t → (place + (n + 1)) + length (drop (n + 1) t) ≡ bytes
 left-is bytes place n t whole room = omega (arith, length-drop (n + 1) t)
 
@@ -388,7 +388,7 @@ form-room t f n rest e p =
     let number : r.n ≡ n = cc in
     subst (λ m. m < length t) number r.room
 
--- a form of a book, and the forms behind it
+-- a form of a book, and the forms after it
 found-next : (bytes left place : ℕ) (b : ℕ) (t : List ℕ) (r : Read) → place + length (b ∷ t) ≡ bytes → nat_eq (length (behind (b ∷ t))) 0 ≡ false → next_form false (nat_eq left 0) (b ∷ t) ≡ r →
     ((n : ℕ) → (place + 1) + n + length (drop n t) ≡ bytes → FoundBook bytes (left - 1) (drop n t) (book false (left - 1) (place + 1) n t)) →
     FoundBook bytes left (b ∷ t) (book_and false r place (λ f n. before false (f, place + gaps (b ∷ t)) (book false (left - 1) (place + 1) n t)))
@@ -469,7 +469,7 @@ reads-book {bytes} (next p q) place whole =
     let r = reads-form p false in
     reads-next bytes _ place _ _ _ _ whole (form-some MAX_NESTING _ _ _ p) r (reads-book q ((place + 1) + r.n) (size-is bytes place _ _ _ r whole))
 
-short-book : (text : List ℕ) → length text ≤ MAX_BOOK → book_of text ≡ parse false text
+pub short-book : (text : List ℕ) → length text ≤ MAX_BOOK → book_of text ≡ parse false text
 short-book text h =
     let short : nat_lt MAX_BOOK (length text) ≡ false = grind (arith, nat_tests) in
     ap (λ c. cond c (parse true (take MAX_BOOK text)) (parse false text)) short
