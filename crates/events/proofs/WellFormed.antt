@@ -268,7 +268,7 @@ module _ (fit : TranslatedTermsFit) (W : World) (sound : Sound W) where
       let measured = measure_fits F f xs t g.0 m.0 (given_fits xs p.measure g.0 g.1) m.1 in
       let over = (fit takes (own_words W sound f (length xs) unused) (is_in xs) p.body t b.1).fits in
       subst (IsTakeable W f) m.2 (record {
-        named = refl;
+        named = refl {a = f};
         well_formed = record {
           formals = formals_distinct p.formals xs q.1;
           body = over_map (λ x. is_in xs x ≡ true) (IsIn xs) (λ g k. takes g ≡ Some k) (λ g k. arity (with_def F (function f xs t m.0)) g ≡ Some k) (in_list xs) (λ g k h. own_arity F (function f xs t m.0) unused g k h) t over;
