@@ -18,7 +18,7 @@ matched-lengths [] (t ∷ ts) s h = refl
 matched-lengths (p ∷ ps) [] s h = refl
 matched-lengths (p ∷ ps) (t ∷ ts) s h = then-none (matched p t s) (matched_all (tms ps) (tms ts)) (λ r. matched-lengths ps ts r (λ e. h (omega arith)))
 
--- the pattern at a place, and those preceded it
+-- the pattern at a place, and those after it
 pub matched-more : (ps ts : List Tm) (i : ℕ) (d e : Tm) (s : Pairs) → i < length ps → length ps ≡ length ts →
     matched_all (tms (drop i ps)) (tms (drop i ts)) s ≡ then_with (matched (get_or ps i d) (get_or ts i e) s) (matched_all (tms (drop (i + 1) ps)) (tms (drop (i + 1) ts)))
 matched-more ps ts i d e s h n =
