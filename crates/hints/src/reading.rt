@@ -96,12 +96,7 @@ pub(crate) fn add_all_opened(
 }
 
 /// A term of `:cases`.
-fn add_case(
-    alloc: Global,
-    world: &World,
-    form: &Form,
-    cases: &mut Terms,
-) -> Result<(), HintError>
+fn add_case(alloc: Global, world: &World, form: &Form, cases: &mut Terms) -> Result<(), HintError>
     requires { IsProper form.now }
     ensures { Says (λ _. cases.new) (spec.with_case world.now cases.old (form_of form.now)) result }
 {
@@ -127,11 +122,7 @@ pub(crate) fn add_all_cases(
 }
 
 /// The definition of the function that the term calls.
-fn called_in<'a>(
-    alloc: Global,
-    world: &'a World,
-    term: &Term,
-) -> Result<&'a Definition, HintError>
+fn called_in<'a>(alloc: Global, world: &'a World, term: &Term) -> Result<&'a Definition, HintError>
     ensures { Says (λ d. d.now) (spec.called_in world.now term.now) result }
 {
     match term.node() {

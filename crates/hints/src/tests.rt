@@ -72,7 +72,8 @@ fn proves_by_hints(rt: HostRuntime) -> Result<(), Fail> {
     assert!(rt; closes(alloc, "(equal (equal 1 2) nil)", "()")?);
     let assoc = "(equal (append (append x y) z) (append x (append y z)))";
     assert!(rt; !closes(alloc, assoc, "()")?);
-    let induct = "((:induct (binary-append x y)) (:expand (append x y) (append x (append y z)) (append (cons (car x) (append (cdr x) y)) z)))";
+    let induct =
+        "((:induct (binary-append x y)) (:expand (append x y) (append x (append y z)) (append (cons (car x) (append (cdr x) y)) z)))";
     assert!(rt; closes(alloc, assoc, induct)?);
     let less = "(implies (consp x) (< (acl2-count (cdr x)) (acl2-count x)))";
     assert!(rt; closes(alloc, less, "((:use acl2-count-cdr ()))")?);

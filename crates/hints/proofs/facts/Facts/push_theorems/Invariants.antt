@@ -9,6 +9,6 @@ abbrev pub invariant-loop-name : goal.invariant-loop-name
 invariant-loop-name l = record {
   texts : list_all is_symbol_text (map (λ name. name.now) (drop l.name-index l.names)) ≡ true;
   rules :
-    l.rules ++ rules_from l.self.world.now l.self.universals.now (map Theorem (map (λ name. name.now) (drop l.name-index l.names)))
-    ≡ l.initial.rules ++ rules_from l.self.world.now l.self.universals.now (map Theorem (map (λ name. name.now) l.names));
+      l.rules ++ rules_from l.self.world.now l.self.universals.now (map Theorem (map (λ name. name.now) (drop l.name-index l.names)))
+      ≡ l.initial.rules ++ rules_from l.self.world.now l.self.universals.now (map Theorem (map (λ name. name.now) l.names));
 }
