@@ -1,0 +1,4 @@
+pub mod Parts
+pub mod Listing
+pub mod Through
+pub mod Inducting

@@ -1,0 +1,12 @@
+use Rattle.std.proofs.Common.{◌≡◌, ◌<◌, drop, length}
+use Rattle.hints.specs.Start.{conjunction}
+use Rattle.hints.proofs.starting.conjunction.Given as goal
+
+abbrev pub invariant-terms : goal.invariant-terms
+invariant-terms l = record {
+  all : l.all ≡ conjunction (drop l.i l.terms);
+  inside : l.i < length l.terms;
+}
+
+abbrev pub decreases-terms : goal.decreases-terms
+decreases-terms l = l.i

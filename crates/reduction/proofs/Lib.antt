@@ -1,0 +1,11 @@
+pub mod Args
+pub mod Unary
+pub mod Ground
+pub mod Bodies
+pub mod Firsts
+pub mod Matching
+pub mod Seeking
+pub mod Moving
+pub mod Runs
+pub mod Stands
+pub mod Leaves

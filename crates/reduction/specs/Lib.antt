@@ -1,0 +1,11 @@
+pub mod Finding
+pub mod Hyps
+pub mod Found
+pub mod Finders
+pub mod Complete
+pub mod Rules
+pub mod Finds
+pub mod Seek
+pub mod Moves
+pub mod Reduction
+pub mod Laws
