@@ -1,7 +1,6 @@
 //! Books: their report, and the run of the program.
 #![tactic(auto)]
 
-mod limits;
 mod program;
 mod progress;
 mod report;
@@ -10,7 +9,7 @@ mod stop;
 mod words;
 
 pub use events::{EventProofs, Lines, ProvedList, Refusal, StepAnswer, step};
-pub use limits::{MAX_BOOK, MAX_EVENTS};
+pub use lisp_reader::{MAX_BOOK, MAX_FORMS};
 pub use lists::{Bytes, Seq, Text};
 pub use program::{Words, run};
 pub use status::Status;
