@@ -81,7 +81,7 @@ integer-leaf r z h p whole value narrow =
     ∙ ap (λ c. cond c (points false r) (cond (is_integer r) (integer (signed_digits_value 10 r)) later)) p
     ∙ ap (λ c. cond c (integer (signed_digits_value 10 r)) later) whole ∙ ap integer value ∙ ap (λ c. cond c (Integer z) (Wrong IntegerTooWide 0)) narrow
 
--- the front of a text, cut at its end
+-- the prefix of a text, cut at its end
 pub front-cut : (r : List ℕ) → take (min (length r) (MAX_SYMBOL + 1)) r ≡ take (MAX_SYMBOL + 1) r
 front-cut r = let e : min (length r) (MAX_SYMBOL + 1) ≡ min (MAX_SYMBOL + 1) (length r) = omega arith in ap (λ n. take n r) e ∙ take_min (MAX_SYMBOL + 1) r
 
@@ -136,7 +136,7 @@ late_whole s t h e = subst IsLate e (late-fold s t h)
 digit-value : (b : ℕ) → is_ascii_digit b ≡ true → digit_value b < 10
 digit-value b h = grind (arith, nat_tests)
 
--- digits behind digits
+-- digits after digits
 whole-more : (b : ℕ) (t : List ℕ) (c : Bool) → is_ascii_digit b ≡ c → (fold grown Whole t ≡ Whole → AllDigits 10 t) → fold grown (cond c Whole (after_other Whole b)) t ≡ Whole → AllDigits 10 (b ∷ t)
 whole-more b t true d rest h = (digit-value b d, rest h)
 whole-more b t false d rest h =
@@ -146,7 +146,7 @@ digits-whole : (t : List ℕ) → fold grown Whole t ≡ Whole → AllDigits 10 
 digits-whole [] h = tt
 digits-whole (b ∷ t) h = whole-more b t (is_ascii_digit b) refl (λ k. digits-whole t k) h
 
--- one digit at least behind a sign
+-- one digit at least after a sign
 sign-more : (b : ℕ) (t : List ℕ) (c : Bool) → is_ascii_digit b ≡ c → fold grown (cond c Whole (after_other Sign b)) t ≡ Whole → IsNumeral 10 (b ∷ t)
 sign-more b t true d h = (omega arith, (digit-value b d, digits-whole t h))
 sign-more b t false d h = absurd (late_whole (after_other Sign b) t (either (nat_eq b 46) Bare NoNumber tt tt) h)
@@ -173,7 +173,7 @@ start-more b t true d e f h =
 start-more b t false true e f h = subst (IsNumeral 10) (signed b t (nat_eq b 45) refl f) (digits-sign t h)
 start-more b t false false e f h = absurd (late_whole _ t (either (nat_eq b 46) Bare NoNumber tt tt) h)
 
--- what has the shape of an integer is a numeral behind a sign or none
+-- what has the shape of an integer is a numeral after a sign or none
 pub numeral : (r : List ℕ) → shape_of r ≡ Whole → IsNumeral 10 (without_leading_sign r)
 numeral [] h = cc
 numeral (b ∷ t) h = start-more b t (is_ascii_digit b) (is_sign b) refl refl h

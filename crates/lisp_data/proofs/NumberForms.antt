@@ -1,4 +1,4 @@
--- The number forms, byte by byte: what a shape says of the bytes behind it.
+-- The number forms, byte by byte: what a shape says of the bytes after it.
 use Rattle.std.proofs.Common.{◌≡◌, ℕ, ◌<◌, Bool, true, false, cond, ◌&&◌, ◌||◌, nat_eq, List, [], ◌∷◌, ◌++◌, refl, ap, sym, subst, ◌∙◌, arith}
 use Rattle.std.proofs.lemmas.Bool.Decides.{nat_tests}
 use Rattle.std.proofs.Math.Bool.{or-false}
@@ -67,7 +67,7 @@ digits-behind q b t = or-false (behind (guarded (is_ascii_digit b) more) q t) �
 sign-behind : (q : Language) (b : ℕ) (t : List ℕ) → behind (optional sign) q (b ∷ t) ≡ ((is_sign b && q t) || q (b ∷ t))
 sign-behind q b t = ap (λ c. c || q (b ∷ t)) (byte-tail is_sign q b t)
 
--- either of two, and what is behind
+-- either of two, and what comes after
 or-swap : (a b c d : Bool) → ((a || b) || (c || d)) ≡ ((a || c) || (b || d))
 or-swap true b c d = refl
 or-swap false true true d = refl
@@ -162,7 +162,7 @@ module _ (P : (digit sign point slash letter : Bool) → Type 0) where
       on false false false false true hd hs hp hl he = at b false false false false true hd hs hp hl he letter
       on false false false false false hd hs hp hl he = at b false false false false false hd hs hp hl he other
 
--- What stands behind a shape where the whole is a number.
+-- What stands after a shape where the whole is a number.
 
 abbrev body : Language
 body t = ratio t || decimal t || power t

@@ -121,7 +121,7 @@ proper-parts fs t h = (proper-list fs t h).items
 pub proper-joined : (fs gs : Forms) (t : Option (Rc Form Global)) → AreProper gs → 0 < length (forms_of gs) → IsProper (Listed fs t) → IsProper (Listed gs t)
 proper-joined fs gs t h k p = listed-proper gs t (record { some = some-items gs k; items = h; last = (proper-list fs t p).last })
 
--- items, with those of the list behind them
+-- items, with those of the list after them
 pub proper-both : (fs gs rest : Forms) (t : Option (Rc Form Global)) (tail : Form) → tail ≡ Listed rest t → forms_of gs ≡ forms_of fs ++ forms_of rest →
     (AreProper fs → AreProper rest → AreProper gs) → AreProper fs → 0 < length (forms_of fs) → IsProper tail → IsProper (Listed gs t)
 proper-both fs gs rest t tail is e more h k p =

@@ -48,7 +48,7 @@ is_odd [] = false
 is_odd (b ∷ []) = nat_eq b 35 || nat_eq b 58
 is_odd (b ∷ c ∷ t) = nat_eq b 35
 
--- an odd atom: a number sign alone, behind which the book goes on, may yet begin a comment
+-- an odd atom: a number sign alone, after which the book goes on, may yet begin a comment
 abbrev pub odd : Bool → List ℕ → Leaf
 odd cut r = if cut && nat_eq (length r) 1 then Wrong BookTooLong 1 else Wrong BadByte 0
 

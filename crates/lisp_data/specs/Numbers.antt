@@ -19,7 +19,7 @@ byte kind [] = false
 byte kind (b ∷ []) = kind b
 byte kind (b ∷ c ∷ t) = false
 
--- a text of p and, behind it, a text of q
+-- a text of p and, after it, a text of q
 abbrev pub behind : Language → Language → Language
 behind p q [] = p [] && q []
 behind p q (b ∷ t) = behind (λ x. p (b ∷ x)) q t || (p [] && q (b ∷ t))
@@ -71,6 +71,6 @@ is_bad_number = behind (optional sign) (λ t. ratio t || decimal t || power t)
 abbrev pub is_number : Language
 is_number t = is_integer t || is_bad_number t
 
--- A text that is a number or can go on as one: then it is one with a zero behind it.
+-- A text that is a number or can go on as one: then it is one with a zero after it.
 abbrev pub begins_number : Language
 begins_number t = is_number (t ++ 48 ∷ [])

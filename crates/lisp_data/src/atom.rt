@@ -218,7 +218,7 @@ fn points(text: &str, cut: bool) -> Atom
     }
 }
 
-/// An odd atom. A number sign alone, behind which the book goes on, may yet begin a comment.
+/// An odd atom. A number sign alone, after which the book goes on, may yet begin a comment.
 fn odd(text: &str, cut: bool) -> Atom
     requires { 0 < length text.now }
     ensures value { leaf_of text.now result ≡ spec.odd cut text.now }

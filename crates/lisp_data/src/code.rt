@@ -12,7 +12,7 @@ pub enum Code {
     UnclosedList,
     /// A `)` where no list is open, or where a `'` waits for its form.
     StrayClose,
-    /// A point that can't stand there, or no single form behind it.
+    /// A point that can't stand there, or no single form after it.
     BadDot,
     /// A ratio, or a number with a point or an exponent.
     BadNumber,

@@ -7,7 +7,7 @@ use crate::symbol::Symbol;
 use lists::{Memory, Text};
 use std::alloc::Global;
 
-/// What a refusal names behind its word (docs/REPORT.md, "Refusals").
+/// What a refusal names after its word (docs/REPORT.md, "Refusals").
 pub enum Detail {
     Absent,
     /// A name, or a key.

@@ -236,13 +236,13 @@ blank-form inside depth u h =
 blank-kind : (some : Bool) (u : List ℕ) → gaps u ≡ 0 → kind false some (32 ∷ u) ≡ kind_of false some u (front u)
 blank-kind some u h = ap (λ n. kind_of false some (drop n (32 ∷ u)) (front (drop n (32 ∷ u)))) (blank-gaps u h)
 
--- the rest of a list is read behind its items, where so many lists and quotes more may be open in it
+-- the rest of a list is read after its items, where so many lists and quotes more may be open in it
 record IsRest (text : List ℕ) (d : Datum) (k : ℕ) : Type 0 where
   long : 0 < length text
   ends : (r : List ℕ) → Ends (text ++ r)
   rest : (r : List ℕ) (depth : ℕ) → k ≤ depth → items false (form false true depth) true 0 (text ++ r) ≡ Got d (length text - 1)
 
--- one item, and the rest behind it
+-- one item, and the rest after it
 item-rest : (x y : List ℕ) (a d : Datum) (k : ℕ) → IsRead x a k → IsRest y d k → (some : Bool) (t r : List ℕ) (depth gap : ℕ) →
     kind false some t ≡ Item → form false true depth t ≡ Got a (gap + (length x - 1)) → drop (gap + length x) t ≡ y ++ r → gap + length x < length t → k ≤ depth →
     items false (form false true depth) some 0 t ≡ Got (PairForm a d) (gap + length x + (length y - 1))

@@ -72,7 +72,7 @@ module _ (more : Bool) where
     abbrev left_here : Answers
     left_here = book more left at 0 (drop at xs)
 
-    -- there are bytes behind the gaps
+    -- there are bytes after the gaps
     full : place < length xs → nat_eq (length (behind (drop at xs))) 0 ≡ false
     full lt =
         let long : length (behind (drop at xs)) ≡ length xs - place = ap length (behind-at xs at place p) ∙ length-drop place xs in

@@ -160,7 +160,7 @@ module _ (more : Bool) (xs : List ℕ) where
       shift-shift i (n + 1) _ ∙ ap (λ t. shift (i + (n + 1)) (closing more f t)) (drop-drop (n + 1) i xs) ∙ ap (λ k. shift k (closing more f (drop k xs))) far
   last-and d i (Bad c n) = refl
 
-  -- behind a point: the form, and the list closes
+  -- after a point: the form, and the list closes
   last-form : (d i : ℕ) (k : Kind) → kind more false (drop i xs) ≡ k → (k ≡ Closes → ⊥) →
       shift i (last more (form more true d) (drop i xs)) ≡ close more xs (shift i (form more true d (drop i xs)))
   last-form d i Closes e n = absurd (n refl)
@@ -206,7 +206,7 @@ module _ (more : Bool) (xs : List ℕ) where
   closes_or tokens.Stray = inr (λ h. cc)
 
   module _ (j depth : ℕ) (fs : List Datum) (place : ℕ) (token : Token) (e : seen token ≡ front (drop place xs)) where
-    -- what is read behind a point, from the token on
+    -- what is read after a point, from the token on
     abbrev pub tail_at : Read
     tail_at = closed more xs j (mapped (chain fs) (shift place (last more (form more true (MAX_NESTING - depth)) (drop place xs))))
 
@@ -237,7 +237,7 @@ module _ (more : Bool) (xs : List ℕ) where
     pub tail-fault : (c : Code) (n : ℕ) → (token ≡ tokens.Close → ⊥) → 0 < depth → read_in ≡ Bad c n → tail_at ≡ Bad c n
     tail-fault c n o d r = tail-other o d ∙ ap (λ r. closed more xs (suc j) (mapped (chain fs) r)) r ∙ closed-bad more xs j c n
 
-    -- a list behind the point: its items go on
+    -- a list after the point: its items go on
     pub tail-join : token ≡ tokens.Open → 0 < depth → depth < MAX_NESTING → tail_at ≡ list_at (j + 1) (depth + 1) false fs (place + 1)
     tail-join o d l =
         let next : suc j ≡ j + 1 = omega arith in
@@ -255,7 +255,7 @@ module _ (more : Bool) (xs : List ℕ) where
         on (inl c) = last-close depth i place token p e c ∙ sym (last-close depth place place token no_gaps e c)
         on (inr n) = last-other depth i place token p e n ∙ sym (last-other depth place place token no_gaps e n)
 
--- where lists close behind a form, for whatever form
+-- where lists close after a form, for whatever form
 pub mapped-place : (h : Datum → Datum) (q r : Read) (n : ℕ) → r ≡ mapped h q → SaysPlace q (Ok n) → r ≡ Got (h nil_form) n
 mapped-place h q r n e s = e ∙ ap (mapped h) s
 

@@ -136,7 +136,7 @@ gaps_from-skip zero (x ∷ xs) h = omega arith
 gaps_from-skip (suc skip) [] h = absurd (omega arith)
 gaps_from-skip (suc skip) (x ∷ xs) h = omega (arith, gaps_from-skip skip xs (omega arith))
 
--- behind a gap whose last byte is the n-th
+-- after a gap whose last byte is the n-th
 pub gaps-step : (xs : List ℕ) (i n : ℕ) → i + n < length xs → front (drop i xs) ≡ Gap n → i + gaps (drop i xs) ≡ (i + (n + 1)) + gaps (drop (i + (n + 1)) xs)
 unfolding gaps_from
 gaps-step xs i n h e =

@@ -161,7 +161,7 @@ found-items k forms some zero (b ∷ t) = on (kind false some (b ∷ t)) refl (f
         found-mapped (IsItems k true (drop n t)) (IsItems k some w) (PairForm f) w _ (λ d rest q. item first q)
         (found-shift (IsItems k true (drop n t)) w 1 _ (more n))
 
--- what is read behind a parenthesis or a quote
+-- what is read after a parenthesis or a quote
 found-list : (k : ℕ) (t : List ℕ) → ((d : ℕ) → k ≡ suc d → FormsFound d) → front (behind t) ≡ Open → Found (IsForm k t) (behind t) (list_in false k (behind t))
 found-list zero t below e = tt
 found-list (suc d) t below e =
@@ -218,7 +218,7 @@ reads-shift r t k f rest p =
 reads-mapped : (h : Datum → Datum) (r : Read) (t : List ℕ) (f : Datum) (rest : List ℕ) → Reads r t f rest → Reads (mapped h r) t (h f) rest
 reads-mapped h r t f rest p = record { n = p.n; got = ap (mapped h) p.got; far = p.far; room = p.room }
 
--- There is room for what is at the front.
+-- There is room for what the text begins with.
 
 abbrev Room : ℕ → Front → Type 0
 Room n (Text m) = m < n
@@ -285,7 +285,7 @@ close-room (b ∷ u) e = omega arith
 gaps-room : (t : List ℕ) → 0 < length (behind t) → gaps t < length t
 gaps-room t h = omega (arith, length-drop (gaps t) t)
 
--- a form by what stands behind its gaps
+-- a form by what stands after its gaps
 reads-front : (k : ℕ) (inside : Bool) (t : List ℕ) (x : Front) (f : Datum) (rest : List ℕ) → front (behind t) ≡ x →
     Reads (one_by false inside (list_in false k) (mark_in false k) (behind t) x) (behind t) f rest → Reads (form false inside k t) t f rest
 reads-front k inside t x f rest e p =
@@ -307,7 +307,7 @@ got-room : (k : ℕ) (t : List ℕ) (f : Datum) (n : ℕ) → form false true k 
 got-room k [] f n h = absurd (let none : Bad UnclosedList 0 ≡ Got f n = sym (form-nil false true k) ∙ h in cc)
 got-room k (b ∷ t) f n h = omega arith
 
--- an item, and the items behind it
+-- an item, and the items after it
 reads-item : (k : ℕ) (some : Bool) (t : List ℕ) (f d : Datum) (middle rest : List ℕ) → IsForm k t f middle → Reads (form false true k t) t f middle →
     Reads (items false (form false true k) true 0 middle) middle d rest → Reads (items false (form false true k) some 0 t) t (PairForm f d) rest
 reads-item k some t f d middle rest p r q =
@@ -374,7 +374,7 @@ place-is bytes place t whole some =
     let long : 0 < length (behind t) = grind (arith, nat_tests) in
     omega (arith, length-drop (gaps t) t)
 
--- so many bytes are left behind a form
+-- so many bytes are left after a form
 left-is : (bytes place n : ℕ) (t : List ℕ) → place + length t ≡ bytes → n < length t → (place + (n + 1)) + length (drop (n + 1) t) ≡ bytes
 left-is bytes place n t whole room = omega (arith, length-drop (n + 1) t)
 
@@ -388,7 +388,7 @@ form-room t f n rest e p =
     let number : r.n ≡ n = cc in
     subst (λ m. m < length t) number r.room
 
--- a form of a book, and the forms behind it
+-- a form of a book, and the forms after it
 found-next : (bytes left place : ℕ) (b : ℕ) (t : List ℕ) (r : Read) → place + length (b ∷ t) ≡ bytes → nat_eq (length (behind (b ∷ t))) 0 ≡ false → next_form false (nat_eq left 0) (b ∷ t) ≡ r →
     ((n : ℕ) → (place + 1) + n + length (drop n t) ≡ bytes → FoundBook bytes (left - 1) (drop n t) (book false (left - 1) (place + 1) n t)) →
     FoundBook bytes left (b ∷ t) (book_and false r place (λ f n. before false (f, place + gaps (b ∷ t)) (book false (left - 1) (place + 1) n t)))

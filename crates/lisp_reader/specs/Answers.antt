@@ -16,7 +16,7 @@ Answers = List (Datum × ℕ) × Option (Code × ℕ)
 abbrev pub answers_code : Coded Answers
 answers_code = coded× (coded_list (coded× datum_code coded_ℕ)) (coded_option (coded× code.the_row.coded coded_ℕ))
 
--- a call answers the first of what is left, and leaves the rest; an end and a refusal stay, and want of memory leaves all
+-- a call answers the first of what is left, and leaves the rest; an end and a refusal stay, and a call that is out of memory leaves all
 abbrev pub SaysNext : Answers → Result (Option Located) ReadError → Answers → Type 0
 SaysNext old (Ok (Some l)) new = old ≡ ((form_of l.form, l.place) ∷ new.0, new.1)
 SaysNext old (Ok None) new = (old ≡ ([], None)) × (new ≡ old)

@@ -34,7 +34,7 @@ abbrev pub AllEndAs : Answers → List Answer → Type 0
 AllEndAs left [] = Unit {0}
 AllEndAs left (r ∷ rs) = EndsAs left r × AllEndAs left rs
 
--- Whatever calls there are, want of memory among them: their forms are the first of those that were left, in order, the end of
+-- Whatever calls there are, those that are out of memory among them: their forms are the first of those that were left, in order, the end of
 -- what is left stays, and an end or a fault comes only where no form is left.
 pub record ReadsInOrder (old new : Answers) (rs : List Answer) : Type 0 where
   pub forms : old.0 ≡ found rs ++ new.0

@@ -22,7 +22,7 @@ abbrev pub mapped : (Datum → Datum) → Read → Read
 mapped h (Got f n) = Got (h f) n
 mapped h (Bad c n) = Bad c n
 
--- a form that was read, and what comes behind it; a fault stays
+-- a form that was read, and what comes after it; a fault stays
 abbrev pub and_then : Read → (Datum → ℕ → Read) → Read
 and_then (Got f n) rest = rest f n
 and_then (Bad c n) rest = Bad c n
@@ -47,11 +47,11 @@ module _ (more : Bool) where
   abbrev pub at_end : Code → Code
   at_end code = if more then BookTooLong else code
 
-  -- the code where they end in a string or a block comment. `inside`: it stands in a list or behind a quote, which is unclosed as well
+  -- the code where they end in a string or a block comment. `inside`: it stands in a list or after a quote, which is unclosed as well
   abbrev pub in_text : Bool → Code
   in_text inside = at_end (if inside then UnclosedList else UnclosedText)
 
-  -- the atom at the front of the text, whose last byte is the n-th; one that runs to the end of the bytes may go on where the book does
+  -- the atom at the start of the text, whose last byte is the n-th; one that runs to the end of the bytes may go on where the book does
   abbrev pub leaf_at : List ℕ → ℕ → Leaf
   leaf_at text n = leaf (more && nat_eq (n + 1) (length text)) (take (n + 1) text)
 
@@ -82,7 +82,7 @@ module _ (more : Bool) where
   abbrev pub one : Bool → (list mark : List ℕ → Read) → List ℕ → Read
   one inside list mark text = shift (gaps text) (one_by inside list mark (behind text) (front (behind text)))
 
-  -- behind the form after the point: gaps, and the `)`; the first byte of a second form is a fault, unless it is one by itself
+  -- after the form that follows a point: gaps, and the `)`; the first byte of a second form is a fault, unless it is one by itself
   abbrev pub closing_by : Datum → List ℕ → Front → Read
   closing_by f text Nothing = Bad (at_end UnclosedList) 0
   closing_by f text EndlessGap = Bad (in_text true) (length text)
@@ -107,7 +107,7 @@ module _ (more : Bool) where
   abbrev pub kind : Bool → List ℕ → Kind
   kind some text = kind_of some (behind text) (front (behind text))
 
-  -- behind the point: a form, and the end of the list
+  -- after the point: a form, and the end of the list
   abbrev pub last_by : (form : List ℕ → Read) → List ℕ → Kind → Read
   last_by form text Closes = Bad BadDot (gaps text)
   last_by form text _ = and_then (form text) (λ f n. shift (n + 1) (closing f (drop (n + 1) text)))
@@ -130,7 +130,7 @@ module _ (more : Bool) where
   form inside (suc depth) text =
       one inside (λ t. shift 1 (items (form true depth) false 0 (drop 1 t))) (λ t. shift 1 (mapped quote_form (form true depth (drop 1 t)))) text
 
-  -- a form begins with the text's first byte; a number sign alone, behind which the book goes on, may yet begin a comment
+  -- a form begins with the text's first byte; a number sign alone, after which the book goes on, may yet begin a comment
   unfoldable pub begins_form : List ℕ → Bool
   begins_form text = begins (front text) && not (more && is_sharp text)
 

@@ -23,7 +23,7 @@ unfoldable mutual
   form_text (TextForm s) = 34 ∷ escaped s ++ 34 ∷ []
   form_text (PairForm a d) = 40 ∷ form_text a ++ rest_text d
 
-  -- the rest of a list behind an item: a point stands before an end that isn't NIL
+  -- the rest of a list after an item: a point stands before an end that isn't NIL
   pub rest_text : Datum → List ℕ
   rest_text (IntForm z) = codes " . " ++ signed_decimal z ++ 41 ∷ []
   rest_text (SymForm s) = if bytes_eq s (codes "NIL") then 41 ∷ [] else codes " . " ++ s ++ 41 ∷ []

@@ -7,7 +7,7 @@ use Rattle.lisp_reader.specs.Grammar.{quote_form, book_of}
 use Rattle.lisp_reader.specs.declared.limits.TheConstants.{MAX_BOOK, MAX_FORMS, MAX_NESTING}
 
 mutual
-  -- `IsForm k t f rest`: behind its gaps the text t begins with the form f, in which k lists and quotes at most are open at once, and
+  -- `IsForm k t f rest`: after its gaps the text t begins with the form f, in which k lists and quotes at most are open at once, and
   -- `rest` follows it.
   pub data IsForm : ℕ → List ℕ → Datum → List ℕ → Type 0 where
     integer : {k : ℕ} (t : List ℕ) (n : ℕ) (z : ℤ) → front (behind t) ≡ Atom n → leaf false (take (n + 1) (behind t)) ≡ Integer z → IsForm k t (IntForm z) (drop (n + 1) (behind t))

@@ -1,4 +1,4 @@
--- What stands at the front of a text.
+-- What a text begins with.
 use Rattle.std.specs.Prelude.{ℕ, ◌+◌, ◌-◌, zero, suc, Bool, true, false, ◌&&◌, ◌||◌, nat_eq, if◌then◌else◌, Option, Some, None, List, [], ◌∷◌, drop}
 use Rattle.std.specs.List.{prefix_len, position_or_len}
 use Rattle.lisp_data.specs.Atoms.{in_atom}
@@ -26,7 +26,7 @@ opens b c = nat_eq b 35 && nat_eq c 124
 unfoldable pub ends : ℕ → ℕ → Bool
 ends b c = nat_eq b 124 && nat_eq c 35
 
--- the place of the last byte of a block comment, counted from behind its beginning; `inner` more are open in it
+-- the place of the last byte of a block comment, counted from the byte after its beginning; `inner` more are open in it
 unfoldable pub block : ℕ → List ℕ → Option ℕ
 block inner [] = None
 block inner (b ∷ []) = None
@@ -35,7 +35,7 @@ block inner (b ∷ c ∷ t) =
     else if ends b c then (if nat_eq inner 0 then Some 1 else later 2 (block (inner - 1) t))
     else later 1 (block inner (c ∷ t))
 
--- the place of the quote that ends a string, counted from behind the one that begins it
+-- the place of the quote that ends a string, counted from the byte after the one that begins it
 unfoldable pub string : List ℕ → Option ℕ
 string [] = None
 string (b ∷ []) = if nat_eq b 34 then Some 0 else None
@@ -74,7 +74,7 @@ abbrev pub text : Option ℕ → Front
 text None = EndlessText
 text (Some n) = Text (n + 1)
 
--- the byte b, with t behind it, where no block comment begins
+-- the byte b, with t after it, where no block comment begins
 abbrev pub plain : ℕ → List ℕ → Front
 plain b t =
     if is_blank b then Gap 0
@@ -96,7 +96,7 @@ unfoldable pub front : List ℕ → Front
 front [] = Nothing
 front (b ∷ t) = if opens_block (b ∷ t) then comment (block 0 (drop 1 t)) else plain b t
 
--- a front with which a form begins
+-- a token with which a form begins
 abbrev pub begins : Front → Bool
 begins Open = true
 begins Quote = true
@@ -128,6 +128,6 @@ gaps_from zero (b ∷ t) = gap_after (front (b ∷ t)) (λ n. gaps_from n t)
 abbrev pub gaps : List ℕ → ℕ
 gaps text = gaps_from 0 text
 
--- the text behind its gaps
+-- the text after its gaps
 abbrev pub behind : List ℕ → List ℕ
 behind text = drop (gaps text) text

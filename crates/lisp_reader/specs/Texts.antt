@@ -18,7 +18,7 @@ mutual
     quoted : {k : ℕ} {f : Datum} {t : List ℕ} → IsText k f t → IsText (suc k) (quote_form f) (39 ∷ t)
     list : {k : ℕ} {a d : Datum} {x y : List ℕ} → IsText k a x → IsRestText k d y → IsText (suc k) (PairForm a d) (40 ∷ x ++ y)
 
-  -- A text of the rest of a list behind an item, in whose forms so many lists and quotes at most are open at once: the end, a point and
+  -- A text of the rest of a list after an item, in whose forms so many lists and quotes at most are open at once: the end, a point and
   -- the last form, or a blank, the next item and the rest.
   pub data IsRestText : ℕ → Datum → List ℕ → Type 0 where
     end : {k : ℕ} → IsRestText k nil_form (41 ∷ [])

@@ -113,7 +113,7 @@ fn write_items(items: &[Form], out: &mut Text) -> Result<(), Memory>
     Ok(())
 }
 
-/// The end of a list, behind its items.
+/// The end of a list, after its items.
 #[cycle(forms)]
 #[tactic(auto, using(crate::proofs::Prints::forms))]
 fn write_end(tail: &Option<Rc<Form>>, out: &mut Text) -> Result<(), Memory>

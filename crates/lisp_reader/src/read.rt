@@ -29,7 +29,7 @@ pub enum ReadError {
     Memory,
 }
 
-/// The bytes of a book, or its front where `more` says that it goes on past them.
+/// The bytes of a book, or a prefix of it where `more` says that it goes on past them.
 #[derive(Clone, Copy)]
 pub struct Input<'a> {
     pub bytes: &'a [u8],
@@ -56,7 +56,7 @@ impl From<Memory> for ReadError {
     }
 }
 
-/// A list begins behind a point, and isn't too deep.
+/// A list begins after a point, and isn't too deep.
 fn joins(token: Token, depth: usize) -> bool
     ensures { IsTrue result ↔ ((token ≡ Token.Open) × (depth < MAX_NESTING)) }
 {
@@ -278,7 +278,7 @@ impl<'a> Input<'a> {
         }
     }
 
-    /// The place of the `)` that ends a list behind its last form.
+    /// The place of the `)` that ends a list after its last form.
     #[tactic(auto, using(crate::proofs::Lists::closings))]
     fn closing(&self, at: usize) -> Result<usize, ReadError>
         requires { at ≤ length self.now.bytes.now }
@@ -298,7 +298,7 @@ impl<'a> Input<'a> {
         }
     }
 
-    /// The place of the `)` that ends the outermost of so many lists, each the last form of the next, behind a form.
+    /// The place of the `)` that ends the outermost of so many lists, each the last form of the next, after a form.
     #[tactic(auto, using(crate::proofs::Lists::closes))]
     fn closings(&self, last: usize, count: usize) -> Result<usize, ReadError>
         requires { last < length self.now.bytes.now }
@@ -370,7 +370,7 @@ impl<'a> Input<'a> {
         }
     }
 
-    /// The list of QUOTE and the form behind a `'`.
+    /// The list of QUOTE and the form after a `'`.
     #[cycle(read)]
     #[tactic(auto, using(crate::proofs::Items::quotes))]
     fn quoted(&self, alloc: Global, at: usize, depth: usize) -> Result<(Form, usize), ReadError>
@@ -386,7 +386,7 @@ impl<'a> Input<'a> {
         Ok((quote_of(alloc, form)?, last))
     }
 
-    /// A list, from behind its `(`. A list behind a point is joined to it: its items are this list's.
+    /// A list, from the byte after its `(`. A list after a point is joined to it: its items are this list's.
     #[cycle(read)]
     #[tactic(auto, using(crate::proofs::Items::lists))]
     fn list(&self, alloc: Global, at: usize, depth: usize) -> Result<(Form, usize), ReadError>
@@ -429,7 +429,7 @@ impl<'a> Input<'a> {
         }
     }
 
-    /// The form behind a point, and the ends of its list and of the lists that this one is joined to.
+    /// The form after a point, and the ends of its list and of the lists that this one is joined to.
     #[cycle(read)]
     #[tactic(auto, using(crate::proofs::Items::tails))]
     fn tail(

@@ -86,7 +86,7 @@ fn is_sharp(text: &[u8]) -> bool
     matches!(text, [b'#'])
 }
 
-/// A form begins with the token at a place. A number sign alone, behind which the book goes on, may yet begin a comment.
+/// A form begins with the token at a place. A number sign alone, after which the book goes on, may yet begin a comment.
 #[tactic(auto, unfolding(crate::specs::Grammar::begins_form))]
 fn begins_form(input: &Input, token: Token, place: usize) -> bool
     requires inside { place ≤ length input.now.bytes.now }

@@ -1,4 +1,4 @@
-//! What stands at the front of a text.
+//! What a text begins with.
 
 ghost use Rattle.std.specs.Prelude.{◌≡◌, ◌+◌, ◌-◌, ◌≤◌, ◌<◌, length, drop, true, IfSome};
 ghost use Rattle.lisp_reader.specs.Spans as spec;
@@ -6,7 +6,7 @@ ghost use Rattle.lisp_reader.specs.view.TokenView.{seen, seen_piece, IsWithin};
 
 use lisp_data::in_atom;
 
-/// What comes first in a text, behind its gaps. A number is the place of its last byte, counted from its first.
+/// What comes first in a text, after its gaps. A number is the place of its last byte, counted from its first.
 #[derive(Clone, Copy, Debug, PartialEq, Eq)]
 pub enum Token {
     /// The text ends.
@@ -78,7 +78,7 @@ fn opens_block(text: &[u8]) -> bool
     }
 }
 
-/// The place of the last byte of a block comment, from behind its beginning.
+/// The place of the last byte of a block comment, from the byte after its beginning.
 #[tactic(auto, using(crate::proofs::Pieces::spans))]
 fn block_end(text: &[u8]) -> Option<usize>
     ensures end { result ≡ spec.block 0 text.now }
@@ -102,7 +102,7 @@ fn block_end(text: &[u8]) -> Option<usize>
     None
 }
 
-/// The place of the quote that ends a string, from behind the one that begins it.
+/// The place of the quote that ends a string, from the byte after the one that begins it.
 #[tactic(auto, using(crate::proofs::Pieces::spans))]
 fn string_end(text: &[u8]) -> Option<usize>
     ensures end { result ≡ spec.string text.now }
@@ -134,7 +134,7 @@ fn comment(text: &[u8]) -> Piece
     }
 }
 
-/// What a byte begins that begins no block comment, with the bytes behind it.
+/// What a byte begins that begins no block comment, with the bytes after it.
 #[tactic(auto, using(crate::proofs::Pieces::runs))]
 fn plain(b: u8, rest: &[u8]) -> Piece
     ensures piece { seen_piece result ≡ spec.plain b rest.now }
@@ -169,7 +169,7 @@ fn piece_of(text: &[u8]) -> Piece
     }
 }
 
-/// What comes first behind the gaps from a place on, and where.
+/// What comes first after the gaps from a place on, and where.
 #[tactic(auto, using(crate::proofs::Pieces::gaps_by))]
 pub fn next_token(bytes: &[u8], at: usize) -> (Token, usize)
     requires { at ≤ length bytes.now }

@@ -1,4 +1,4 @@
-//! Lists that contracts see as the lists of their items, and want of memory.
+//! Lists that contracts see as the lists of their items, and the error of an allocation that fails.
 #![tactic(auto)]
 
 mod memory;

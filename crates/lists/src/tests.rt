@@ -1,3 +1,5 @@
+//! Tests of lists.
+
 use super::*;
 use std::test::Fail;
 

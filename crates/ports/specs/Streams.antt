@@ -18,6 +18,6 @@ abbrev pub Puts : {E : Type 0} → Option (List ℕ) → Option (List ℕ) → R
 Puts before after result piece =
     MatchResult result (λ n. Grows before after (take n piece)) (λ _. Grows before after [])
 
--- What is told after was told before, and grew by a front of these bytes.
+-- What is told after was told before, and grew by a prefix of these bytes.
 abbrev pub GrowsByFront : Option (List ℕ) → Option (List ℕ) → List ℕ → Type 0
 GrowsByFront before after bytes = (n : ℕ) × (n ≤ length bytes) × Grows before after (take n bytes)

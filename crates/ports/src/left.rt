@@ -6,7 +6,7 @@ ghost use Rattle.ports.specs.InMemory.{unbounded};
 use lists::Bytes;
 use std::marker::Model;
 
-/// Bytes that are read from the front, so many a call at most.
+/// Bytes that are read from the first on, so many a call at most.
 #[derive(Drop)]
 pub(crate) struct Left {
     bytes: Bytes,
@@ -43,7 +43,7 @@ impl Left {
         }
     }
 
-    /// Moves the next bytes to the front of the buffer, and answers how many.
+    /// Moves the next bytes to the start of the buffer, and answers how many.
     pub(crate) fn pull(&mut self, buf: &mut [u8]) -> usize
         requires { 0 < length buf.old }
         ensures count { result ≡ min self.old.most (min (length buf.new) (length self.old.left)) }
@@ -59,7 +59,7 @@ impl Left {
     }
 }
 
-/// Copies as many bytes as fit to the front of the buffer, so many at most, and answers how many.
+/// Copies as many bytes as fit to the start of the buffer, so many at most, and answers how many.
 fn copy_front(from: &[u8], buf: &mut [u8], most: usize) -> usize
     ensures count { result ≡ min most (min (length buf.new) (length from.now)) }
     ensures bytes { take result buf.new ≡ take result from.now }

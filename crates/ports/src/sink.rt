@@ -14,7 +14,7 @@ pub trait Sink {
     /// How many faults there were.
     ghost faults: { Self → ℕ };
 
-    /// Appends a front of the piece, of one byte at least, and answers how long it is. A sink that
+    /// Appends a prefix of the piece, of one byte at least, and answers how long it is. A sink that
     /// tells its bytes after a call told them before it.
     fn put(&mut self, bytes: &[u8]) -> Result<usize, Failed>
         requires { 0 < length bytes.now }
@@ -23,7 +23,7 @@ pub trait Sink {
         ensures cause { HasCause (faults self.old) (faults self.new) result };
 }
 
-/// Appends all bytes. After a fault a front of them was appended.
+/// Appends all bytes. After a fault a prefix of them was appended.
 pub fn put_all<K: Sink>(sink: &mut K, bytes: &[u8]) -> Result<(), Failed>
     ensures ok { OnOk result (Grows (K.held sink.old) (K.held sink.new) bytes.now) }
     ensures failed { OnErr result (GrowsByFront (K.held sink.old) (K.held sink.new) bytes.now) }

@@ -21,7 +21,7 @@ pub trait Source {
     /// How many faults there were.
     ghost faults: { Self → ℕ };
 
-    /// Puts the next bytes at the front of the buffer, and answers how many: none only at the end.
+    /// Puts the next bytes at the start of the buffer, and answers how many: none only at the end.
     /// A source that tells its bytes before a call tells them after it.
     fn pull(&mut self, buf: &mut [u8]) -> Result<usize, Failed>
         requires { 0 < length buf.old }

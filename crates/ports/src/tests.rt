@@ -1,3 +1,5 @@
+//! Tests of ports in memory.
+
 use crate::{
     Calls, Failed, FileSink, FileSource, MemorySink, MemorySource, ReadAllError, Sink, Source,
     SureSink, SureSource, put_all, read_all,

@@ -27,7 +27,7 @@ use Rattle.term_forms.specs.Bindings.{names_of, binding_form, variable_of, AreAl
 use Rattle.term_forms.specs.Outcomes.{each}
 use Rattle.terms.proofs.Names.{same_name}
 use Rattle.term_forms.proofs.Each.{each-more, each-refused, each-end}
-use Rattle.term_forms.proofs.Folds.{take-more}
+use Rattle.std.proofs.lemmas.List.{take_more}
 
 abbrev pub backwards : List Binding → List Name → List Name
 backwards [] ns = ns
@@ -222,7 +222,7 @@ names-drop [] i b h e = absurd (omega arith)
 names-drop (c ∷ bs) zero b h e = ap (λ (b : Binding). b.name ∷ names_of bs) (sym e)
 names-drop (c ∷ bs) (suc i) b h e = simp unary_clauses (simp unary_clauses at (names-drop bs i b (omega arith) e))
 
--- the names from a place on, behind those before it
+-- the names from a place on, after those before it
 abbrev from : List Binding → ℕ → Outcome (Unit {0})
 from bs i = distinct_after (backwards (take i bs) []) (names_of (drop i bs))
 
@@ -230,7 +230,7 @@ from-step : (bs : List Binding) (i : ℕ) (b : Binding) → i < length bs → b 
     from bs i ≡ (if is_in (names_of (take i bs)) b.name then Err (RepeatedFormal, detail.Name b.name) else from bs (i + 1))
 from-step bs i b h e =
     let before : backwards (take (i + 1) bs) [] ≡ b.name ∷ backwards (take i bs) [] =
-    ap (λ cs. backwards cs []) (take-more bs i b h) ∙ backwards-push (take i bs) (get_or bs i b) [] ∙ ap (λ (b : Binding). b.name ∷ backwards (take i bs) []) (sym e) in
+    ap (λ cs. backwards cs []) (take_more bs i b h) ∙ backwards-push (take i bs) (get_or bs i b) [] ∙ ap (λ (b : Binding). b.name ∷ backwards (take i bs) []) (sym e) in
     let test : is_in (backwards (take i bs) []) b.name ≡ is_in (names_of (take i bs)) b.name = in-backwards (take i bs) [] b.name ∙ or-none (is_in (names_of (take i bs)) b.name) in
     ap (distinct_after (backwards (take i bs) [])) (names-drop bs i b h e)
     ∙ ap (λ t. if t then Err (RepeatedFormal, detail.Name b.name) else distinct_after (b.name ∷ backwards (take i bs) []) (names_of (drop (i + 1) bs))) test
@@ -259,7 +259,7 @@ zip-more (c ∷ bs) (u ∷ ts) (suc i) b t h g e k =
     simp unary_clauses (ap (λ r. (c.name, u) ∷ r) (simp unary_clauses at ih))
 
 pub names-more : (bs : List Binding) (i : ℕ) (b : Binding) → i < length bs → b ≡ get_or bs i b → names_of (take (i + 1) bs) ≡ names_of (take i bs) ++ b.name ∷ []
-names-more bs i b h e = ap names_of (take-more bs i b h) ∙ names-push (take i bs) (get_or bs i b) ∙ ap (λ (b : Binding). names_of (take i bs) ++ b.name ∷ []) (sym e)
+names-more bs i b h e = ap names_of (take_more bs i b h) ∙ names-push (take i bs) (get_or bs i b) ∙ ap (λ (b : Binding). names_of (take i bs) ++ b.name ∷ []) (sym e)
 
 pub ruleset grown = (names-more, append_assoc, take_all)
 

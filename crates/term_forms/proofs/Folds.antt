@@ -1,6 +1,7 @@
 -- Words of any number of parts, from the last part on.
 use Rattle.std.proofs.Common.{◌≡◌, codes, ℕ, zero, suc, ◌+◌, ◌-◌, ◌<◌, ◌≤◌, Ok, Err, List, [], ◌∷◌, ◌++◌, length, get_or, take, refl, ap, sym, ◌∙◌, arith}
 use native.Mathlib.Numerals.{unary_clauses}
+use Rattle.std.proofs.lemmas.List.{take_more}
 use Rattle.term_forms.specs.declared.translation.TermError.{TermError}
 use Rattle.term_forms.specs.declared.translation.TermError.TheVariants.{Refused, Memory}
 use Rattle.term_forms.specs.declared.macros.Fold.{Fold}
@@ -13,18 +14,12 @@ use Rattle.term_forms.specs.TranslationView.{SaysOutcome}
 use Rattle.term_forms.specs.Words.{of_parts, joined, folded}
 use Rattle.term_forms.proofs.Growing.{IsWithin, limited-same, larger-refused}
 
--- items up to a place: those before it, and the one there
-pub take-more : {A : Type 0} (xs : List A) (i : ℕ) (d : A) → i < length xs → take (i + 1) xs ≡ take i xs ++ get_or xs i d ∷ []
-take-more [] i d h = absurd (omega arith)
-take-more (x ∷ xs) zero d h = refl
-take-more (x ∷ xs) (suc i) d h = simp unary_clauses (ap (λ r. x ∷ r) (simp unary_clauses at (take-more xs i d (omega arith))))
-
 folded-last : {A : Type 0} (f : A → Tm → Tm) (xs : List A) (x : A) (r : Tm) → folded f (xs ++ x ∷ []) r ≡ folded f xs (f x r)
 folded-last f [] x r = refl
 folded-last f (y ∷ xs) x r = ap (f y) (folded-last f xs x r)
 
 pub folded-more : {A : Type 0} (f : A → Tm → Tm) (xs : List A) (i : ℕ) (d : A) (r : Tm) → i < length xs → folded f (take i xs) (f (get_or xs i d) r) ≡ folded f (take (i + 1) xs) r
-folded-more f xs i d r h = sym (folded-last f (take i xs) (get_or xs i d) r) ∙ ap (λ ys. folded f ys r) (sym (take-more xs i d h))
+folded-more f xs i d r h = sym (folded-last f (take i xs) (get_or xs i d) r) ∙ ap (λ ys. folded f ys r) (sym (take_more xs i d h))
 
 within-self : (t : Tm) → IsWithin t t
 within-self t = record { few = omega arith; low = omega arith }
@@ -32,7 +27,7 @@ within-self t = record { few = omega arith; low = omega arith }
 within-through : (s t u : Tm) → IsWithin s t → IsWithin t u → IsWithin s u
 within-through s t u p q = record { few = omega (arith, p.few, q.few); low = omega (arith, p.low, q.low) }
 
--- each step keeps all of what comes behind it
+-- each step keeps all of what comes after it
 abbrev pub IsGrowing : {A : Type 0} → (A → Tm → Tm) → Type 0
 IsGrowing {A = A} f = (x : A) (r : Tm) → IsWithin r (f x r)
 
@@ -71,7 +66,7 @@ pub list-folded : (ts : List Tm) → list_of ts ≡ folded (joined fold.List) ts
 list-folded [] = refl
 list-folded (t ∷ ts) = ap (call2 (codes "CONS") t) (list-folded ts)
 
--- the others have the last part behind the parts before it
+-- the others have the last part after the parts before it
 pub others-folded : (m : Fold) (s : Tm) (ts : List Tm) (t : Tm) → (m ≡ fold.List → ⊥) → of_parts m (s ∷ (ts ++ t ∷ [])) ≡ folded (joined m) (s ∷ ts) t
 others-folded fold.And s [] t h = refl
 others-folded fold.Or s [] t h = refl
@@ -98,7 +93,7 @@ parts-folded m [] d h g = absurd (omega arith)
 parts-folded m (s ∷ ts) d h g =
     let n = length ts - 1 in
     let long : n < length ts = omega arith in
-    let whole : take n ts ++ get_or ts n d ∷ [] ≡ ts = sym (take-more ts n d long) ∙ ap (λ k. take k ts) (let e : n + 1 ≡ length ts = omega arith in e) ∙ all-taken ts in
+    let whole : take n ts ++ get_or ts n d ∷ [] ≡ ts = sym (take_more ts n d long) ∙ ap (λ k. take k ts) (let e : n + 1 ≡ length ts = omega arith in e) ∙ all-taken ts in
     let place : length (s ∷ ts) - 1 ≡ suc n = omega arith in
     ap (λ us. of_parts m (s ∷ us)) (sym whole) ∙ others-folded m s (take n ts) (get_or ts n d) g
     ∙ ap (λ k. folded (joined m) (take k (s ∷ ts)) (get_or (s ∷ ts) k d)) (sym place)

@@ -26,7 +26,7 @@ mutual
 pub terms-again : (t : Tm) → IsPrintableTerm t → IsTermAgain t
 terms-again t p = record { read = λ h l. texts-read (form_of_term t) (term_text t) (text-of t MAX_NESTING p h) l }
 
--- the arguments from a place on, where the one there and those behind it are printable
+-- the arguments from a place on, where the one there and those after it are printable
 pub printable-from : (ts : List Tm) (i : ℕ) (d : Tm) → i < length ts → IsPrintableTerm (get_or ts i d) → IsPrintable (form_of_arguments (tms (drop (i + 1) ts))) → IsPrintable (form_of_arguments (tms (drop i ts)))
 printable-from ts i d h p q = subst (λ us. IsPrintable (form_of_arguments us)) (sym (tms-drop ts i d h)) (p, q)
 

@@ -16,6 +16,6 @@ abbrev pub in_turn_outcome : Takes → Scope → Datum → Datum → Outcome Tm
 in_turn_outcome takes scope bindings body =
     and_then (and_then (bound_names bindings) (λ names. in_turn takes scope bindings (λ inner. translate takes inner body))) limited
 
--- a body behind these bindings
+-- a body after these bindings
 abbrev pub after_bindings : Takes → Scope → List Binding → Datum → Outcome Tm
 after_bindings takes scope bindings body = in_turn takes scope (chain (map binding_form bindings) nil_form) (λ inner. translate takes inner body)

@@ -6,14 +6,14 @@ use Rattle.lisp_reader.specs.Printed.{datum_of, value_text, nesting, IsPrintable
 use Rattle.terms.specs.Terms.{Tm, Var, Quote, Call, Tms, Done, More}
 use Rattle.lisp_reader.specs.declared.limits.TheConstants.{MAX_BOOK, MAX_NESTING}
 
--- a variable as it is, a quoted value behind a quote, and a call as a list: `x`, `'v`, `(f a b)`
+-- a variable as it is, a quoted value after a quote, and a call as a list: `x`, `'v`, `(f a b)`
 abbrev mutual
   pub term_text : Tm → List ℕ
   term_text (Var x) = x
   term_text (Quote v) = codes "'" ++ value_text v
   term_text (Call f ts) = codes "(" ++ f ++ arguments_text ts
 
-  -- each behind a blank, and the end of the list
+  -- each after a blank, and the end of the list
   pub arguments_text : Tms → List ℕ
   arguments_text Done = codes ")"
   arguments_text (More t ts) = codes " " ++ term_text t ++ arguments_text ts

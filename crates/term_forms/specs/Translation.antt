@@ -218,7 +218,7 @@ abbrev mutual
       map_outcome (substitute (by_pairs ((x, t) ∷ []))) (in_turn takes (with_names (x ∷ []) scope) d last))
   in_turn takes scope _ last = last scope
 
-  -- the part behind the bindings, which `head` has counted
+  -- the part after the bindings, which `head` has counted
   pub body : Takes → Scope → Datum → Outcome Tm
   body takes scope (PairForm b e) = translate takes scope b
   body takes scope _ = bad_form

@@ -85,7 +85,7 @@ fn open_clauses(clauses: &[Clause]) -> usize
     clauses.len()
 }
 
-/// What stands behind the clauses before the first whose test is T.
+/// What stands after the clauses before the first whose test is T.
 fn behind_open(alloc: Global, clauses: &[Clause]) -> Result<Counted, Memory>
     ensures { IfOk result (λ t. t ≡ behind_open clauses.now) }
 {
@@ -110,7 +110,7 @@ fn choose_all(alloc: Global, clauses: &[Clause], rest: Counted) -> Result<Counte
     Ok(term)
 }
 
-/// The term of the clauses. Those behind the first whose test is T are no part of it, also of its size.
+/// The term of the clauses. Those after the first whose test is T are no part of it, also of its size.
 #[tactic(auto, using(crate::proofs::ClauseLemmas::up_to_last))]
 pub(crate) fn chosen(alloc: Global, clauses: &[Clause]) -> Result<Counted, TermError>
     ensures { SaysOutcome (limited (chosen clauses.now)) result }

@@ -47,7 +47,7 @@ fn write_arguments(terms: &[Term], out: &mut Text) -> Result<(), Memory>
     out.push(b')')
 }
 
-/// Writes a term at the end of a text: a variable as it is, a quoted value behind a quote, a call as a list of its name and its
+/// Writes a term at the end of a text: a variable as it is, a quoted value after a quote, a call as a list of its name and its
 /// arguments. Where there is no memory the text is as before.
 #[tactic(auto, using(lisp_reader::proofs::Prints::cuts, crate::proofs::Prints::again))]
 pub fn print_term(term: &Term, out: &mut Text) -> Result<(), Memory>

@@ -391,7 +391,7 @@ fn let_in_turn_term<S: Signatures>(
     in_turn_term(alloc, bindings.as_slice(), body, sigs, scope)
 }
 
-/// The term of a body behind bindings, each of which also sees those before it.
+/// The term of a body after bindings, each of which also sees those before it.
 #[cycle(translate)]
 #[tactic(auto, using(crate::proofs::Lets::turns))]
 fn in_turn_term<S: Signatures>(

@@ -13,7 +13,7 @@ leaf_of r atoms.Symbol = a.Named (map to_ascii_uppercase r)
 leaf_of r atoms.Point = a.Point
 leaf_of r (atoms.Wrong code offset) = a.Wrong code offset
 
--- a fault lies at most n bytes behind the atom's first byte
+-- a fault lies at most n bytes after the atom's first byte
 abbrev pub IsNear : ℕ → Atom → Type 0
 IsNear n (atoms.Wrong code offset) = offset ≤ n
 IsNear n _ = Unit {0}

@@ -17,7 +17,7 @@ SaysBuilt f (Err TooLarge) = IsSmall (value f) → ⊥
 SaysBuilt f (Err NotAValue) = has_text f ≡ true
 SaysBuilt f (Err Memory) = Unit {0}
 
--- the value of a list: those of its items, and what comes behind them
+-- the value of a list: those of its items, and what comes after them
 abbrev pub value_before : List Datum → Val → Val
 value_before [] e = e
 value_before (f ∷ fs) e = v.Pair (value f) (value_before fs e)

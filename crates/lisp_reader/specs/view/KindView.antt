@@ -1,4 +1,4 @@
--- What the code finds at the front of the rest of a list.
+-- What the code finds at the start of the rest of a list.
 use Rattle.lisp_reader.specs.Grammar as g
 use Rattle.lisp_reader.specs.declared.read.Kind.{Kind}
 use Rattle.lisp_reader.specs.declared.read.Kind.TheVariants.{Closes, Points, Item}

@@ -1,4 +1,4 @@
--- What the code finds at the front of a text.
+-- What the code finds at the start of a text.
 use Rattle.std.specs.Prelude.{◌≡◌, ℕ, ◌<◌}
 use Rattle.lisp_reader.specs.Spans as s
 use Rattle.lisp_reader.specs.Spans.{Front}
