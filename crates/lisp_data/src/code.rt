@@ -18,7 +18,7 @@ pub enum Code {
     BadNumber,
     /// An integer of more than 128 bits.
     IntegerTooWide,
-    /// The 201st `(` or `'` that is open.
+    /// One `(` or `'` more than may be open at once.
     TooDeep,
     /// More bytes or more forms than a book may have.
     BookTooLong,

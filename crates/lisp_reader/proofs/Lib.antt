@@ -9,5 +9,6 @@ pub mod Prints
 pub mod Numerals
 pub mod Again
 pub mod RelationLaws
+pub mod FaultLaws
 pub mod CallLaws
 pub mod Ends

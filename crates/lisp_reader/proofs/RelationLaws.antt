@@ -24,7 +24,7 @@ use Rattle.lisp_reader.specs.declared.limits.TheConstants.{MAX_BOOK, MAX_FORMS, 
 -- What is read stands in the relation.
 
 -- what is read of t, if anything, and what follows it, are in R
-abbrev Found : (Datum → List ℕ → Type 0) → List ℕ → Read → Type 0
+abbrev pub Found : (Datum → List ℕ → Type 0) → List ℕ → Read → Type 0
 Found R t (Got f n) = R f (drop (n + 1) t)
 Found R t (Bad c n) = Unit {0}
 
@@ -42,7 +42,7 @@ found-same : (R S : Datum → List ℕ → Type 0) (t : List ℕ) (r : Read) →
 found-same R S t (Got f n) into p = into f _ p
 found-same R S t (Bad c n) into p = tt
 
-closes-are : (some : Bool) (u : List ℕ) (f : Front) → kind_of false some u f ≡ Closes → f ≡ Close
+pub closes-are : (some : Bool) (u : List ℕ) (f : Front) → kind_of false some u f ≡ Closes → f ≡ Close
 closes-are some u Nothing h = cc
 closes-are some u (Gap n) h = cc
 closes-are some u EndlessGap h = cc
@@ -195,17 +195,17 @@ found-one k inside t below = subst (Found (IsForm k t) t) (sym (form-one false i
     on (Atom n) e = by_leaf n (leaf false (take (n + 1) (behind t))) e refl
     on Stray e = tt
 
-found-form : (k : ℕ) (inside : Bool) (t : List ℕ) → Found (IsForm k t) t (form false inside k t)
+pub found-form : (k : ℕ) (inside : Bool) (t : List ℕ) → Found (IsForm k t) t (form false inside k t)
 found-form zero inside t = found-one zero inside t (λ d e. absurd (let k = e in cc))
 found-form (suc k) inside t = found-one (suc k) inside t (λ d e. (let same : k ≡ d = cc in subst FormsFound same (λ s. found-form k true s)))
 
 -- What stands in the relation is read.
 
-record Reads (r : Read) (t : List ℕ) (f : Datum) (rest : List ℕ) : Type 0 where
-  n : ℕ
-  got : r ≡ Got f n
-  far : rest ≡ drop (n + 1) t
-  room : n < length t
+pub record Reads (r : Read) (t : List ℕ) (f : Datum) (rest : List ℕ) : Type 0 where
+  pub n : ℕ
+  pub got : r ≡ Got f n
+  pub far : rest ≡ drop (n + 1) t
+  pub room : n < length t
 
 reads-same : (r s : Read) (t : List ℕ) (f : Datum) (rest : List ℕ) → r ≡ s → Reads s t f rest → Reads r t f rest
 reads-same r s t f rest e p = record { n = p.n; got = e ∙ p.got; far = p.far; room = p.room }
@@ -338,7 +338,7 @@ reads-last k t n f middle e h p r c =
     (reads-shift _ t (gaps t + 1) f rest (subst (λ (x : List ℕ). Reads (last false F x) x f rest) same ending))
 
 mutual
-  reads-form : {k : ℕ} {t : List ℕ} {f : Datum} {rest : List ℕ} → IsForm k t f rest → (inside : Bool) → Reads (form false inside k t) t f rest
+  pub reads-form : {k : ℕ} {t : List ℕ} {f : Datum} {rest : List ℕ} → IsForm k t f rest → (inside : Bool) → Reads (form false inside k t) t f rest
   reads-form (integer t n z e h) inside = reads-front _ inside t (Atom n) _ _ e (record { n = n; got = ap (λ l. leaf_read false l n) h; far = refl; room = atom-room (behind t) n e })
   reads-form (symbol t n s e h) inside = reads-front _ inside t (Atom n) _ _ e (record { n = n; got = ap (λ l. leaf_read false l n) h; far = refl; room = atom-room (behind t) n e })
   reads-form (string t n e) inside = reads-front _ inside t (Text n) _ _ e (record { n = n; got = refl; far = refl; room = string-room (behind t) n e })
@@ -358,7 +358,7 @@ and-false true = refl
 and-false false = refl
 
 -- a form may come
-free-form : (left : ℕ) (t : List ℕ) → next_form false (nat_eq (suc left) 0) t ≡ form false false MAX_NESTING t
+pub free-form : (left : ℕ) (t : List ℕ) → next_form false (nat_eq (suc left) 0) t ≡ form false false MAX_NESTING t
 free-form left t =
     let some : nat_eq (suc left) 0 ≡ false = grind (arith, nat_tests) in
     ap (λ c. cond (begins_form false (behind t) && c) (Bad BookTooLong (gaps t)) (form false false MAX_NESTING t)) some
@@ -369,7 +369,7 @@ nothing-there [] h = refl
 nothing-there (b ∷ u) h = absurd (let none : nat_eq (length (b ∷ u)) 0 ≡ false = grind (arith, nat_tests) in let k : true ≡ false = sym h ∙ none in cc)
 
 -- the place of a form is what stands before it
-place-is : (bytes place : ℕ) (t : List ℕ) → place + length t ≡ bytes → nat_eq (length (behind t)) 0 ≡ false → bytes - length (behind t) ≡ place + gaps t
+pub place-is : (bytes place : ℕ) (t : List ℕ) → place + length t ≡ bytes → nat_eq (length (behind t)) 0 ≡ false → bytes - length (behind t) ≡ place + gaps t
 place-is bytes place t whole some =
     let long : 0 < length (behind t) = grind (arith, nat_tests) in
     omega (arith, length-drop (gaps t) t)
@@ -469,7 +469,7 @@ reads-book {bytes} (next p q) place whole =
     let r = reads-form p false in
     reads-next bytes _ place _ _ _ _ whole (form-some MAX_NESTING _ _ _ p) r (reads-book q ((place + 1) + r.n) (size-is bytes place _ _ _ r whole))
 
-short-book : (text : List ℕ) → length text ≤ MAX_BOOK → book_of text ≡ parse false text
+pub short-book : (text : List ℕ) → length text ≤ MAX_BOOK → book_of text ≡ parse false text
 short-book text h =
     let short : nat_lt MAX_BOOK (length text) ≡ false = grind (arith, nat_tests) in
     ap (λ c. cond c (parse true (take MAX_BOOK text)) (parse false text)) short

@@ -1,6 +1,7 @@
 pub mod Spans
 pub mod Grammar
 pub mod Relation
+pub mod Faults
 pub mod Answers
 pub mod FormValue
 pub mod Printed

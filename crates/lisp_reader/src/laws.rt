@@ -6,6 +6,7 @@ ghost use Rattle.lisp_data.specs.Values.{Val};
 ghost use Rattle.lisp_reader.specs.Answers.{Answers};
 ghost use Rattle.lisp_reader.specs.Calls.{Answer, Run, ReadsInOrder};
 ghost use Rattle.lisp_reader.specs.Printed.{datum_of, IsPrintable, IsReadAgain, IsValueAgain};
+ghost use Rattle.lisp_reader.specs.Faults.{FaultsAreFirst};
 ghost use Rattle.lisp_reader.specs.Relation.{GrammarIsRelation};
 ghost use Rattle.lisp_reader.specs.Texts.{TextsAreRead, PrintsAreTexts};
 
@@ -19,6 +20,12 @@ pub fn calls_read_in_order()
 #[tactic(auto, using(crate::proofs::RelationLaws::relation_laws))]
 pub fn grammar_is_a_relation()
     ensures { GrammarIsRelation }
+{}
+
+/// The forms before the first fault are the relation's, what follows them begins with no form, and each code says what stands at its place.
+#[tactic(auto, using(crate::proofs::FaultLaws::fault_laws))]
+pub fn faults_are_first()
+    ensures { FaultsAreFirst }
 {}
 
 /// Each text of a form is read as that form: a list that begins with QUOTE may be written with a quote.

@@ -2,7 +2,7 @@
 use Rattle.std.proofs.Common.{◌≡◌, ◌<◌, ◌≤◌, ◌+◌, ℕ, zero, suc, Bool, true, false, ◌&&◌, ◌||◌, bytes_eq, codes, List, [], ◌∷◌, ◌++◌, length, get_or, map, take, drop, Option, Some, None, Result, Ok, Err, if◌then◌else◌, refl, ap, sym, subst, ◌∙◌, arith, Global, append_assoc}
 use native.Mathlib.Numerals.{unary_clauses}
 use Rattle.std.specs.List.{zip}
-use Rattle.std.proofs.lemmas.List.{take_all, drop_all}
+use Rattle.std.proofs.lemmas.List.{take_all, take_more, drop_all}
 use Rattle.lisp_data.specs.Values.{Name}
 use Rattle.lisp_data.specs.Datum.{Datum, IntForm, SymForm, TextForm, PairForm, nil_form, chain}
 use Rattle.std.specs.declared.rc.Rc.{Rc}
@@ -27,7 +27,6 @@ use Rattle.term_forms.specs.Bindings.{names_of, binding_form, variable_of, AreAl
 use Rattle.term_forms.specs.Outcomes.{each}
 use Rattle.terms.proofs.Names.{same_name}
 use Rattle.term_forms.proofs.Each.{each-more, each-refused, each-end}
-use Rattle.std.proofs.lemmas.List.{take_more}
 
 abbrev pub backwards : List Binding → List Name → List Name
 backwards [] ns = ns
