@@ -14,7 +14,7 @@ use Rattle.lisp_reader.specs.Answers.{Answers}
 use Rattle.lisp_reader.specs.Faults.{is_endless, is_opening, is_form_or_close, IsWrongAtom, IsMisplaced, IsFault, IsBegun, none, next, IsFirstFault, wrong, full, FaultsAreFirst}
 use Rattle.lisp_reader.proofs.Ends.{IsBad, none_bad}
 use Rattle.lisp_reader.proofs.Steps.{list_in, mark_in, form-one}
-use Rattle.lisp_reader.proofs.RelationLaws.{Found, found-form, Reads, reads-form, closes-are, free-form, place-is, short-book}
+use Rattle.lisp_reader.proofs.RelationLaws.{Found, found-form, reads-form, closes-are, free-form, place-is, short-book}
 use Rattle.lisp_reader.specs.declared.limits.TheConstants.{MAX_BOOK, MAX_FORMS, MAX_NESTING}
 
 -- Gaps.

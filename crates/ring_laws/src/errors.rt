@@ -7,7 +7,7 @@ use lists::Memory;
 pub enum RingError {
     /// A norm is over 2^127 - 1.
     TooWide,
-    /// More than 4,096 monomials have a coefficient other than 0.
+    /// More monomials than `MAX_MONOMIALS` have a coefficient other than 0.
     TooLarge,
     Memory,
 }
