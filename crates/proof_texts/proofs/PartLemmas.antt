@@ -72,7 +72,7 @@ both-none : {A B : Type 0} (a : Option A) → both {A = A} {B = B} a None ≡ No
 both-none None = refl
 both-none (Some a) = refl
 
--- one item, and a form behind a point
+-- one item, and a form after a point
 one_pointed : (xs : List Form) (end : Datum) (x : Form) → 1 ≤ length xs → length xs < 2 → x ≡ get_or xs 0 x → is_word (codes "NIL") end ≡ false →
     two_symbols (chain (map form_of xs) end) ≡ both (symbol_of (form_of x)) (symbol_of end)
 one_pointed [] end x h n e q = absurd (omega arith)

@@ -61,7 +61,7 @@ arguments-chain (t ∷ ts) = ap (PairForm (form_of_term t)) (arguments-chain ts)
 
 pub ruleset terms = (args, arguments-chain, append_assoc, quote-symbol)
 
--- a variable with its term, and those behind it
+-- a variable with its term, and those after it
 pub image-at : (s : Pairs) (i : ℕ) (e : Name × Tm) → slice_get s i ≡ Some e → map image_form (drop i s) ≡ image_form e ∷ map image_form (drop (i + 1) s)
 image-at [] i e h = absurd (cc)
 image-at (p ∷ s) zero e h = let same : p ≡ e = cc in ap (λ p. image_form p ∷ map image_form s) same

@@ -41,7 +41,7 @@ parts_of_fact (fact.Theorem n) = part.Name n ∷ []
 parts_of_fact (fact.Measure f k) = part.Name f ∷ part.Number k ∷ []
 parts_of_fact (fact.Isomorphism n k) = part.Name n ∷ part.Number k ∷ []
 
--- the parts behind the word that are no proofs
+-- the parts after the word that are no proofs
 abbrev pub parts_of : Step → List Part
 parts_of (step.Hyp p) = part.Term p ∷ []
 parts_of (step.Refl a) = part.Term a ∷ []

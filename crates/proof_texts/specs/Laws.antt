@@ -45,7 +45,7 @@ IsTerm W t = IsTermOver (arity W.functions) any t
 abbrev pub IsNumber : ℕ → Type 0
 IsNumber n = nat_lt n (2 ^ 32) ≡ true
 
--- behind the pairs before them: terms for variables, no variable twice
+-- after the pairs before them: terms for variables, no variable twice
 abbrev pub AreImages : World → Pairs → Pairs → Type 0
 AreImages W before [] = Unit {0}
 AreImages W before (e ∷ s) = (is_variable_name e.0 ≡ true) × (is_some (lookup before e.0) ≡ false) × IsTerm W e.1 × AreImages W (before ++ e ∷ []) s

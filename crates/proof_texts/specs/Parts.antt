@@ -102,7 +102,7 @@ both (Some a) (Some b) = Some (a, b)
 both (Some a) None = None
 both None b = None
 
--- two symbols with a point between them; NIL behind a point ends a list
+-- two symbols with a point between them; NIL after a point ends a list
 abbrev pub two_symbols : Datum → Option (Name × Name)
 two_symbols (PairForm a b) = if is_word (codes "NIL") b then None else both (symbol_of a) (symbol_of b)
 two_symbols _ = None

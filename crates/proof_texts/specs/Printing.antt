@@ -20,7 +20,7 @@ use Rattle.proof_texts.specs.declared.words.Word.TheVariants as word
 use Rattle.proof_texts.specs.declared.steps.Part.{Part}
 use Rattle.proof_texts.specs.declared.steps.Part.TheVariants as part
 
--- what stands behind a word
+-- what stands after a word
 abbrev pub kinds_of : Word → List Kind
 kinds_of w = words.kinds_of w
 
@@ -81,7 +81,7 @@ laid [] ps fs = []
 laid (k ∷ ks) ps fs =
     if words.is_proof k then take 1 fs ++ laid ks ps (drop 1 fs) else map (part_form fs) (take 1 ps) ++ laid ks (drop 1 ps) fs
 
--- a step's word, and behind it its parts and the proofs
+-- a step's word, and after it its parts and the proofs
 abbrev pub step_form : Step → List Datum → Datum
 step_form s fs = list_form (word_form (word_for s) ∷ laid (kinds_of (word_for s)) (parts_of s) fs)
 

@@ -1,4 +1,4 @@
--- The proofs of texts. A text is a list of a word and the parts that the table has behind it. What is wrong comes from left to right,
+-- The proofs of texts. A text is a list of a word and the parts that the table has after it. What is wrong comes from left to right,
 -- the number of parts before them, and last of all a rule that isn't there yet.
 use Rattle.std.specs.Prelude.{ℕ, nat_eq, if◌then◌else◌, List, [], ◌∷◌, ◌++◌, length, Option, Some, None, Ok, option_and_then}
 use Rattle.lisp_data.specs.Datum.{Datum, IntForm, SymForm, TextForm, PairForm, chain, nil_form}
@@ -41,7 +41,7 @@ with_proof r p = record { parts = r.parts; subproofs = r.subproofs ++ p ∷ [] }
 abbrev pub no_cases : List ProofTree → CasesRead
 no_cases ps = record { cases = []; subproofs = ps }
 
--- behind them
+-- after them
 abbrev pub with_cases : Read → CasesRead → Read
 with_cases r c = record { parts = r.parts ++ part.Cases c.cases ∷ []; subproofs = c.subproofs }
 
@@ -84,7 +84,7 @@ abbrev pub word_before : Datum → Option (List Datum) → Outcome Word
 word_before head None = bad_proof
 word_before head (Some forms) = word_at head (length forms)
 
--- the proof of a word and what was read behind it
+-- the proof of a word and what was read after it
 abbrev pub tree_by : Word → Read → Outcome ProofTree
 tree_by w r = map_outcome (λ s. By s (trees r.subproofs)) (or_bad (step_of w r.parts))
 
@@ -125,11 +125,11 @@ part_at W r k d = part_after W r k d (tree_of W d) (cases_from W (no_cases r.sub
 abbrev pub case_at : World → CasesRead → Datum → Outcome CasesRead
 case_at W c d = case_after W c (items_of d) (third W d)
 
--- the cases that a form is a list of, behind these subproofs
+-- the cases that a form is a list of, after these subproofs
 abbrev pub cases_at : World → List ProofTree → Datum → Outcome CasesRead
 cases_at W ps d = and_then (list_of d) (λ forms. cases_from W (no_cases ps) d)
 
--- the proof of a head and the parts behind it
+-- the proof of a head and the parts after it
 abbrev pub tree_from : World → Datum → List Datum → Outcome ProofTree
 tree_from W head forms = and_then (word_at head (length forms)) (λ w. and_then (parts_from W nothing (kinds_of w) (chain forms nil_form)) (tree_by w))
 

@@ -26,7 +26,7 @@ abbrev pub or_bad : {A : Type 0} → Option A → Outcome A
 or_bad (Some x) = Ok x
 or_bad None = bad_proof
 
--- an error is the outcome's refusal, or want of memory
+-- an error is the outcome's refusal, or out of memory
 abbrev pub IsRefusal : {A : Type 0} → Outcome A → ProofError → Type 0
 IsRefusal o (Refused code detail) = o ≡ Err (code, detail)
 IsRefusal o Memory = Unit {0}
@@ -36,7 +36,7 @@ abbrev pub Says : {A B : Type 0} → (A → B) → Outcome B → Result A ProofE
 Says seen o (Ok x) = o ≡ Ok (seen x)
 Says seen o (Err e) = IsRefusal o e
 
--- what an error says, where it isn't want of memory
+-- what an error says, where it isn't out of memory
 abbrev pub IsError : Code → Detail → ProofError → Type 0
 IsError code detail (Refused c d) = (c ≡ code) × (d ≡ detail)
 IsError code detail Memory = Unit {0}

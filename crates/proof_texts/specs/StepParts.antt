@@ -1,4 +1,4 @@
--- The steps of words and the parts behind them that are no proofs.
+-- The steps of words and the parts after them that are no proofs.
 use Rattle.std.specs.Prelude.{ℕ, Bool, true, false, ◌&&◌, List, [], ◌∷◌, Option, Some, None, option_map, option_and_then}
 use Rattle.lisp_data.specs.Values.{Name}
 use Rattle.terms.specs.Terms.{Tm}
@@ -76,7 +76,7 @@ of_one f k ps = option_map k (option_and_then f (only ps))
 abbrev pub of_two : {A B : Type 0} → (Part → Option A) → (Part → Option B) → (A → B → Step) → List Part → Option Step
 of_two f g k ps = option_and_then (λ p. option_and_then (λ a. option_map (k a) (g p.1)) (f p.0)) (only_two ps)
 
--- the step of a word and the parts behind it that are no proofs
+-- the step of a word and the parts after it that are no proofs
 abbrev pub step_of : Word → List Part → Option Step
 step_of (Rule rule.Hyp) = of_one a_term step.Hyp
 step_of (Rule rule.Refl) = of_one a_term step.Refl

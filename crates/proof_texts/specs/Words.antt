@@ -1,4 +1,4 @@
--- The words of proofs, and the kinds of the parts behind them.
+-- The words of proofs, and the kinds of the parts after them.
 use Rattle.std.specs.Prelude.{ℕ, Bool, true, false, bytes_eq, if◌then◌else◌, codes, List, [], ◌∷◌, Option, Some, None}
 use Rattle.proof_objects.specs.RuleNames as rule_names
 use Rattle.proof_objects.specs.declared.rule.Rule.TheVariants.{Hyp, Refl, Replace, Unfold, Eval, Substitute, IfTrue, IfFalse, Cases, Cut, Weaken, Contradict, Axiom, Ring, ImpliesIn, ImpliesOut, Universal, Discharge, Theorem, Instance, Induct}
@@ -25,7 +25,7 @@ text_of (Rule rule) = rule_names.word rule
 text_of Measure = codes ":MEASURE"
 text_of Isomorphism = codes ":ISO"
 
--- what the parts behind a word are, in order
+-- what the parts after a word are, in order
 abbrev pub kinds_of : Word → List Kind
 kinds_of (Rule Hyp) = kind.Term ∷ []
 kinds_of (Rule Refl) = kind.Term ∷ []

@@ -35,7 +35,7 @@ pub(crate) fn word_for(step: &Step) -> Word
     }
 }
 
-/// The parts behind the word that are no proofs, in order.
+/// The parts after the word that are no proofs, in order.
 pub(crate) fn parts_of(alloc: Global, step: &Step) -> Result<Vec<Given<'_>>, Memory>
     ensures { IfOk result (λ parts. map seen parts.items ≡ parts_of step.now) }
 {

@@ -112,7 +112,7 @@ fn term_form(alloc: Global, term: &Term) -> Result<Form, Memory>
     }
 }
 
-/// The items, and the forms of terms behind them.
+/// The items, and the forms of terms after them.
 #[cycle(terms)]
 #[tactic(auto, using(crate::proofs::PrintLemmas::terms))]
 fn with_terms(alloc: Global, mut items: Forms, terms: &[Term]) -> Result<Forms, Memory>
@@ -212,7 +212,7 @@ fn proof_form(alloc: Global, proof: &Proof) -> Result<Form, Memory>
     Ok(Form::list(items))
 }
 
-/// A word, and the parts behind it in their places.
+/// A word, and the parts after it in their places.
 #[cycle(proofs)]
 #[tactic(auto, using(crate::proofs::PrintLemmas::proofs))]
 fn laid(

@@ -62,7 +62,7 @@ struct CasesRead {
     subproofs: Seq<Proof>,
 }
 
-/// The word of a text that has so many parts behind it.
+/// The word of a text that has so many parts after it.
 fn read_word(alloc: Global, head: &Form, count: usize) -> Result<Word, ProofError>
     requires { IsProper head.now }
     ensures word { Says (λ word. word) (spec.word_at (form_of head.now) count) result }
@@ -90,7 +90,7 @@ fn read_tree(alloc: Global, world: &World, form: &Form) -> Result<Proof, ProofEr
     }
 }
 
-/// The proof of a list of a word and the parts behind it.
+/// The proof of a list of a word and the parts after it.
 #[cycle(proof)]
 #[tactic(auto, using(crate::proofs::ReadLemmas::trees_read))]
 fn read_items(alloc: Global, world: &World, items: &[Form]) -> Result<Proof, ProofError>
@@ -267,7 +267,7 @@ fn case_of(
     Ok(CasesRead { cases, subproofs })
 }
 
-/// Whether the rules take each step as yet.
+/// Whether the rules take each step so far.
 #[cycle(built)]
 fn all_built(proof: &Proof) -> bool
     ensures { result ≡ all_built proof.now }

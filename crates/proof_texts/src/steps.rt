@@ -1,4 +1,4 @@
-//! Steps from the words and parts of their texts. Which steps the rules take as yet stands here too.
+//! Steps from the words and parts of their texts. Which steps the rules take so far stands here too.
 
 ghost use Rattle.std.specs.Prelude.{◌≡◌};
 ghost use Rattle.proof_texts.specs.StepParts as spec;
@@ -144,7 +144,7 @@ fn two(mut parts: Vec<Part>) -> Option<(Part, Part)>
     }
 }
 
-/// The step of a word and the parts behind it that are no proofs.
+/// The step of a word and the parts after it that are no proofs.
 pub(crate) fn step_of(word: Word, parts: Vec<Part>) -> Option<Step>
     ensures { result ≡ spec.step_of word parts.items }
 {
@@ -223,7 +223,7 @@ pub(crate) fn step_of(word: Word, parts: Vec<Part>) -> Option<Step>
     }
 }
 
-/// Whether the rules take the step as yet.
+/// Whether the rules take the step so far.
 pub(crate) fn is_built(step: &Step) -> bool
     ensures { result ≡ spec.is_built step.now }
 {

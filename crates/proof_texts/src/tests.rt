@@ -1,3 +1,5 @@
+//! Tests of texts of proofs.
+
 ghost use Rattle.std.specs.Prelude.{IfOk};
 ghost use Rattle.lisp_data.specs.FormView.{IsProper};
 

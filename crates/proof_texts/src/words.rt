@@ -1,4 +1,4 @@
-//! The words of proofs and the places of the parts behind them: they stand here, and nowhere else.
+//! The words of proofs and the places of the parts after them: they stand here, and nowhere else.
 
 ghost use Rattle.std.specs.Prelude.{◌≡◌};
 ghost use Rattle.proof_texts.specs.Words as spec;
@@ -92,7 +92,7 @@ impl Word {
         }
     }
 
-    /// What the parts behind it are, in order: reading and printing go by this table alone (docs/SYNTAX.md, "Texts of proofs").
+    /// What the parts after it are, in order: reading and printing go by this table alone (docs/SYNTAX.md, "Texts of proofs").
     pub fn kinds(self) -> &'static [Kind]
         ensures { result.now ≡ spec.kinds_of self }
     {
