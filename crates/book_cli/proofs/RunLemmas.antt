@@ -11,7 +11,7 @@ use Rattle.lisp_data.specs.Datum.{Datum}
 use Rattle.lisp_data.specs.declared.code.Code.{Code}
 use Rattle.lisp_reader.specs.Grammar.{parse, book_of}
 use Rattle.lisp_reader.proofs.Ends.{goes_on}
-use Rattle.book_cli.specs.declared.limits.TheConstants.{MAX_BOOK}
+use Rattle.lisp_reader.specs.declared.limits.TheConstants.{MAX_BOOK}
 use Rattle.book_cli.specs.declared.progress.Progress.{Progress}
 use Rattle.terms.specs.Sound.{Sound}
 use Rattle.book_cli.specs.Report.{Read, accepts, accepts_all, report_of, world_made}

@@ -6,7 +6,7 @@ use Rattle.lisp_reader.specs.Grammar.{book_of}
 use Rattle.terms.specs.Sound.{Sound}
 use Rattle.book_cli.specs.Report.{Read, report_of, accepts_all, world_made, report, is_accepted, world_of}
 use Rattle.book_cli.specs.Values.{ValuesAreTrue}
-use Rattle.book_cli.specs.declared.limits.TheConstants.{MAX_BOOK}
+use Rattle.lisp_reader.specs.declared.limits.TheConstants.{MAX_BOOK}
 use Rattle.book_cli.specs.declared.status.Status.{Status}
 use Rattle.book_cli.specs.declared.status.Status.TheVariants.{Accepted, Refused, Usage, ReadFault, WriteFault, Memory}
 use Rattle.book_cli.specs.declared.stop.Stop.{Stop}

@@ -2,7 +2,6 @@
 #![tactic(auto)]
 
 mod laws;
-mod limits;
 mod program;
 mod progress;
 mod report;
@@ -11,7 +10,7 @@ mod stop;
 mod words;
 
 pub use events::{EventProofs, Lines, ProvedList, Refusal, StepAnswer, step};
-pub use limits::{MAX_BOOK, MAX_EVENTS};
+pub use lisp_reader::{MAX_BOOK, MAX_FORMS};
 pub use lists::{Bytes, Seq, Text};
 pub use program::{Words, run};
 pub use status::Status;

@@ -9,11 +9,10 @@ ghost use Rattle.book_cli.specs.Report.{is_accepted, report, report_of};
 ghost use Rattle.book_cli.specs.Outcomes.{IsAcceptedRun, IsRefusedRun, IsReported, IsReportStatus, IsOfModeLine, IsSureEnd, IsUntouched, is_cut};
 
 use crate::laws::printed_values_are_true;
-use crate::limits::MAX_BOOK;
 use crate::report::write_report;
 use crate::status::{Status, status_of};
 use crate::words::{WordsError, read_words};
-use lisp_reader::FormReader;
+use lisp_reader::{FormReader, MAX_BOOK};
 use lists::{Seq, Text};
 use ports::{ReadAllError, Sink, Source, read_all};
 use std::alloc::Global;

@@ -8,7 +8,7 @@ ghost use Rattle.ports.specs.Streams.{Grows, GrowsByFront};
 ghost use Rattle.terms.specs.Sound.{Sound};
 ghost use Rattle.events.specs.Lines.{refused_line};
 ghost use Rattle.events.specs.Verdicts.{verdict};
-ghost use Rattle.book_cli.specs.declared.limits.TheConstants.{MAX_EVENTS};
+ghost use Rattle.lisp_reader.specs.declared.limits.TheConstants.{MAX_FORMS};
 ghost use Rattle.book_cli.specs.Report.{all_lines, IsNext, event_line, turn_lines, last_line, end_lines, report_of, accepts_all, world_made};
 
 use crate::progress::Progress;
@@ -186,7 +186,7 @@ pub(crate) fn write_report<K: Sink>(
     continues: bool,
     out: &mut K,
 ) -> Result<bool, Stop>
-    requires { length reader.old.0 ≤ MAX_EVENTS }
+    requires { length reader.old.0 ≤ MAX_FORMS }
     ensures written { OnOk result (Grows (K.held out.old) (K.held out.new) (report_of continues reader.old)) }
     ensures cut { OnErr result (GrowsByFront (K.held out.old) (K.held out.new) (report_of continues reader.old)) }
     ensures accepted { IfOk result (λ all. all ≡ accepts_all reader.old) }
