@@ -26,7 +26,7 @@ module _ (a b c : Option (List ℕ)) where
   begun_end rest piece whole it e g =
       subst (Grows a c) (ap (λ x. it.written ++ x) (sym e) ∙ it.split) (Grows-trans a b c it.written piece it.grown g)
 
-  -- a front of a piece
+  -- a prefix of a piece
   pub begun_cut : (rest piece more whole : List ℕ) → IsBegun a b rest whole → rest ≡ piece ++ more → GrowsByFront b c piece → GrowsByFront a c whole
   begun_cut rest piece more whole it e g =
       let all : whole ≡ it.written ++ (piece ++ more) = sym (ap (λ x. it.written ++ x) (sym e) ∙ it.split) in
@@ -37,7 +37,7 @@ module _ (a b c : Option (List ℕ)) where
         subst (Grows a c) (sym front) (Grows-trans a b c it.written (take g.0 piece) it.grown g.2),
       )
 
-  -- a front of the last piece
+  -- a prefix of the last piece
   pub begun_last_cut : (rest piece whole : List ℕ) → IsBegun a b rest whole → rest ≡ piece → GrowsByFront b c piece → GrowsByFront a c whole
   begun_last_cut rest piece whole it e g = begun_cut rest piece [] whole it (e ∙ sym (append-nil piece)) g
 

@@ -52,7 +52,7 @@ accepts_to_end p es (Some fault) h = cc
 pub front_refused : (front : List ℕ) → accepts_all (parse true front) ≡ true → ⊥
 front_refused front h = goes_on front (accepts_to_end _ (parse true front).0 (parse true front).1 h)
 
--- a front of a first piece, and a front of a second
+-- a prefix of a first piece, and a prefix of a second
 pub front_first : (a b : Option (List ℕ)) (p q : List ℕ) → GrowsByFront a b p → GrowsByFront a b (p ++ q)
 front_first a b p q g =
     (g.0, omega (arith, g.1, length-append p q), subst (Grows a b) (sym (take-append-le g.0 p q g.1)) g.2)

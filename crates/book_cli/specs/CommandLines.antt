@@ -41,7 +41,7 @@ continues words = list_any (bytes_eq (codes "--continue")) (flags words)
 abbrev pub shows : List (List ℕ) → Bool
 shows words = list_any (bytes_eq (codes "--show")) (flags words)
 
--- words are refused only where they are no mode line; want of memory is free
+-- words are refused only where they are no mode line; running out of memory is free
 abbrev pub IsRefusalOf : List (List ℕ) → WordsError → Type 0
 IsRefusalOf words (Usage fault) = IsModeLine words → ⊥
 IsRefusalOf words Memory = ⊤

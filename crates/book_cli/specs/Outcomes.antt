@@ -28,7 +28,7 @@ is_cut ReadFault = true
 is_cut WriteFault = true
 is_cut Memory = true
 
--- an end that comes for mode lines alone: want of memory may come while words are read
+-- an end that comes for mode lines alone: memory may run out while words are read
 abbrev pub IsOfModeLine : Status → Type 0
 IsOfModeLine Accepted = ⊤
 IsOfModeLine Refused = ⊤

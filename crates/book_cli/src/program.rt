@@ -21,7 +21,7 @@ pub type Words = Seq<Text>;
 
 /// Reads the book, checks its events and writes the report (docs/REPORT.md). It does all that the program does.
 ///
-/// The old log and the new log aren't touched as yet.
+/// The old log and the new log aren't touched yet.
 pub fn run<B: Source, L: Source, K: Sink, P: Sink>(
     alloc: Global,
     words: &Words,
@@ -64,7 +64,7 @@ pub fn run<B: Source, L: Source, K: Sink, P: Sink>(
     }
 }
 
-/// Reads a book, checks its events and writes the report, which goes on behind a refused event or ends with it.
+/// Reads a book, checks its events and writes the report, which goes on after a refused event or ends with it.
 fn check_book<B: Source, K: Sink>(
     alloc: Global,
     continues: bool,

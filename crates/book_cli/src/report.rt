@@ -78,7 +78,7 @@ fn write_lines<K: Sink>(lines: &[Text], out: &mut K) -> Result<(), Stop>
     }
 }
 
-/// Whether a run goes on behind an event.
+/// Whether a run goes on after an event.
 fn goes_on(accepted: bool, continues: bool) -> bool
     ensures { result ≡ (accepted || continues) }
 {

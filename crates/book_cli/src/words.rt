@@ -18,7 +18,7 @@ mod tests;
 /// What a command line asks for: that a book is checked.
 #[derive(Clone, Copy, Debug, PartialEq, Eq)]
 pub(crate) struct ModeLine {
-    /// The events behind a refused one are handled too.
+    /// The events after a refused one are handled too.
     pub(crate) continues: bool,
     /// What the events make is shown.
     pub(crate) shows: bool,
@@ -129,7 +129,7 @@ fn line_of(matches: &ArgMatches<'_>) -> Option<ModeLine>
     })
 }
 
-/// The one mode as yet takes no count.
+/// The one mode so far takes no count.
 fn is_check(mode: Option<&str>, count: Option<&str>) -> bool
     ensures { result ≡ is_check (option_map (λ s. s.now) mode.entry) (option_map (λ s. s.now) count.entry) }
 {

@@ -1,3 +1,5 @@
+//! Tests of command lines.
+
 use super::*;
 use std::test::Fail;
 
