@@ -1,5 +1,5 @@
 -- Declarations of functions.
-use Rattle.std.specs.Prelude.{ℕ, Bool, true, false, ◌||◌, if◌then◌else◌, codes, is_some, List, [], ◌∷◌, Option, Some, None, Ok}
+use Rattle.std.specs.Prelude.{ℕ, Bool, false, ◌||◌, if◌then◌else◌, codes, is_some, List, [], ◌∷◌, Option, Some, None, Ok}
 use Rattle.std.specs.List.{list_all, list_any}
 use Rattle.lisp_data.specs.Values.{Name}
 use Rattle.lisp_data.specs.Datum.{Datum}

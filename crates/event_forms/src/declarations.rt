@@ -127,13 +127,7 @@ fn xargs(declaration: &Form) -> &[Form]
     ensures proper { AllProper result.now }
 {
     match items(declaration) {
-        Some([word, parts @ ..]) => {
-            if is_word(word, "XARGS") {
-                parts
-            } else {
-                &[]
-            }
-        }
+        Some([word, parts @ ..]) => { if is_word(word, "XARGS") { parts } else { &[] } }
         _ => &[],
     }
 }
@@ -167,11 +161,7 @@ fn value_in<'a>(key: &str, part: &'a Form) -> Option<&'a Form>
 
 /// The value of a key in the parts before the body.
 #[tactic(auto, using(crate::proofs::DeclarationLemmas::parts))]
-pub(crate) fn declared_value<'a>(
-    key: &str,
-    first: &'a Form,
-    rest: &'a [Form],
-) -> Option<&'a Form>
+pub(crate) fn declared_value<'a>(key: &str, first: &'a Form, rest: &'a [Form]) -> Option<&'a Form>
     requires first { IsProper first.now }
     requires rest { AllProper rest.now }
     ensures value { option_map form_of (option_copied result) ≡ spec.declared_value key.now (form_of first.now) (map form_of rest.now) }

@@ -29,7 +29,14 @@ impl Keyed {
     {
         let known = match self {
             Keyed::Function => {
-                [":GUARD", ":VERIFY-GUARDS", ":GUARD-HINTS", ":MEASURE", ":PROOF"].as_slice()
+                [
+                    ":GUARD",
+                    ":VERIFY-GUARDS",
+                    ":GUARD-HINTS",
+                    ":MEASURE",
+                    ":PROOF",
+                ]
+                .as_slice()
             }
             Keyed::Theorem => [":RULE-CLASSES", ":PROOF"].as_slice(),
             Keyed::Book => [":DIR"].as_slice(),

@@ -1,5 +1,5 @@
 -- Clauses and the ways of conditions, one at a time.
-use Rattle.std.proofs.Common.{◌≡◌, Bool, true, false, ◌&&◌, List, [], ◌∷◌, bytes_eq, Option, Some, None, if◌then◌else◌, refl}
+use Rattle.std.proofs.Common.{◌≡◌, Bool, true, false, ◌&&◌, List, bytes_eq, Option, Some, None, if◌then◌else◌, refl}
 use Rattle.lisp_data.specs.Values.{Name}
 use Rattle.lisp_data.specs.Datum.{Datum}
 use Rattle.event_forms.specs.Clauses.{with_clause}

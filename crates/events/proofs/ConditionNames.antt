@@ -1,11 +1,11 @@
 -- Names of conditions that end with a number are symbols.
-use Rattle.std.proofs.Common.{◌≡◌, ℕ, zero, suc, ◌+◌, ◌%◌, ◌^◌, ◌<◌, ◌≤◌, Bool, true, false, cond, if◌then◌else◌, ◌&&◌, not, nat_eq, nat_lt, Option, Some, None, List, [], ◌∷◌, ◌++◌, codes, bytes_eq, length, map, take, drop, refl, ap, sym, ◌∙◌, arith}
+use Rattle.std.proofs.Common.{◌≡◌, ℕ, zero, suc, ◌+◌, ◌%◌, ◌^◌, ◌<◌, ◌≤◌, Bool, true, false, cond, if◌then◌else◌, ◌&&◌, not, nat_eq, nat_lt, Some, None, List, [], ◌∷◌, ◌++◌, codes, length, map, take, drop, refl, ap, ◌∙◌, arith}
 use Rattle.std.proofs.lemmas.Bool.Decides.{nat_tests}
 use Rattle.std.proofs.lemmas.Fmt.{decimal_by_steps, length-decimal-le}
 use Rattle.std.specs.Char.{is_ascii_digit, to_ascii_uppercase as up}
 use Rattle.std.specs.Fmt.{decimal}
 use Rattle.std.specs.List.{fold, list_all, position, prefix_len}
-use Rattle.lisp_data.specs.Atoms.{Leaf, Named, Wrong, is_delimiter, in_atom, word_by, leaf}
+use Rattle.lisp_data.specs.Atoms.{Named, Wrong, is_delimiter, in_atom, word_by, leaf}
 use Rattle.lisp_data.specs.Numbers.{is_sign}
 use Rattle.lisp_data.specs.SymbolText.{is_symbol_text, is_named}
 use Rattle.lisp_data.specs.view.Automaton.{grown, shape_of, shaped}

@@ -1,5 +1,5 @@
 -- What a definition owes, under the names of conditions.
-use Rattle.std.proofs.Common.{◌≡◌, ℕ, zero, suc, ◌+◌, ◌<◌, List, [], ◌∷◌, length, get_or, drop, refl, ap, sym, arith}
+use Rattle.std.proofs.Common.{◌≡◌, ℕ, zero, suc, ◌+◌, ◌<◌, List, [], ◌∷◌, length, get_or, drop, ap, sym, arith}
 use native.Mathlib.Numerals.{unary_clauses}
 use Rattle.terms.specs.declared.sequent.Sequent.{Sequent}
 use Rattle.events.specs.Defun.{decrease, decreases}

@@ -1,11 +1,8 @@
 -- The answers to events.
-use Rattle.std.proofs.Common.{codes, ◌≡◌, ℕ, Bool, true, false, List, [], ◌∷◌, Result, Ok, Err, if◌then◌else◌, refl, ap, sym, ◌∙◌, subst}
+use Rattle.std.proofs.Common.{codes, ◌≡◌, ℕ, List, [], ◌∷◌, Result, Ok, Err, refl, ap, sym, ◌∙◌, subst}
 use Rattle.std.specs.Result.{IsErr, IsErrAnd}
-use Rattle.lisp_data.specs.Values.{Name}
 use Rattle.lisp_data.specs.Datum.{Datum}
-use Rattle.lisp_data.specs.declared.code.Code.{Code}
 use Rattle.lisp_data.specs.RefusalCodes.{number}
-use Rattle.lisp_data.specs.declared.detail.Detail.{Detail}
 use Rattle.terms.specs.Terms.{Tm}
 use Rattle.terms.specs.Worlds.{World}
 use Rattle.term_forms.specs.Translation.{Outcome, map_outcome}
@@ -13,7 +10,7 @@ use Rattle.term_forms.specs.TranslationView.{SaysOutcome}
 use Rattle.term_forms.specs.declared.translation.TermError.{TermError}
 use Rattle.term_forms.specs.declared.translation.TermError.TheVariants as term
 use Rattle.event_forms.specs.Shapes.{Event, event_of}
-use Rattle.events.specs.Halts.{IsCoded, IsRefusal, IsFromTerm, Reads, Answers}
+use Rattle.events.specs.Halts.{IsRefusal, IsFromTerm, Reads, Answers}
 use Rattle.events.specs.Lines.{text_of, refused_line}
 use Rattle.events.specs.Refusals.{refusal_code}
 use Rattle.events.specs.Steps.{IsStep}
@@ -21,7 +18,7 @@ use Rattle.events.specs.Verdicts as verdict
 use Rattle.events.specs.declared.refusal.Refusal.{Refusal}
 use Rattle.events.specs.declared.refusal.Refusal.TheVariants.{Coded, ProofWrong, AtNode}
 use Rattle.events.specs.declared.halt.Halt.{Halt}
-use Rattle.events.specs.declared.halt.Halt.TheVariants.{Refused, Memory}
+use Rattle.events.specs.declared.halt.Halt.TheVariants.{Refused}
 use Rattle.events.specs.declared.steps.StepAnswer.{StepAnswer}
 use Rattle.events.specs.declared.steps.StepAnswer.TheVariants as answer
 
