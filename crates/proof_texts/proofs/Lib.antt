@@ -4,3 +4,4 @@ pub mod StepLemmas
 pub mod ReadLemmas
 pub mod PrintLemmas
 pub mod AgainLemmas
+pub mod SyntaxWords

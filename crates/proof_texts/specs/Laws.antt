@@ -121,6 +121,10 @@ pub record IsProofAgain (W : World) (p : ProofTree) : Type 0 where
   pub read : nesting (form_of_proof p) ≤ MAX_NESTING → length (proof_text p) ≤ MAX_BOOK → IsPrintable (form_of_proof p) → book_of (proof_text p) ≡ ((form_of_proof p, 0) ∷ [], None)
   pub proof : proof_of W (form_of_proof p) ≡ Ok p
 
--- a proof of built rules that is well formed in the world, where no word of the syntax of terms is a function
+-- each proof of built rules that is well formed in the world
+abbrev pub ProofsAreReadAgainIn : World → Type 0
+ProofsAreReadAgainIn W = (p : ProofTree) → IsReadable W p → all_built p ≡ true → IsProofAgain W p
+
+-- in each world where no word of the syntax of terms is a function
 abbrev pub ProofsAreReadAgain : Type 0
-ProofsAreReadAgain = (W : World) → WordsApart (arity W.functions) → (p : ProofTree) → IsReadable W p → all_built p ≡ true → IsProofAgain W p
+ProofsAreReadAgain = (W : World) → WordsApart (arity W.functions) → ProofsAreReadAgainIn W
