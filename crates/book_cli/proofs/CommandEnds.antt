@@ -21,7 +21,7 @@ use Rattle.book_cli.specs.declared.words.WordsError.{WordsError}
 use Rattle.book_cli.specs.declared.words.WordsError.TheVariants.{Usage, Memory}
 use Rattle.clap.specs.declared.error.Error.{Error}
 use Rattle.clap.specs.declared.parser.ArgMatches.{ArgMatches}
-use Rattle.book_cli.specs.CommandMatches.{HasFlags, derive_app, is_check, line_in}
+use Rattle.book_cli.specs.view.CommandMatches.{HasFlags, derive_app, is_check, line_in}
 use Rattle.book_cli.specs.declared.words.ModeLine.{ModeLine}
 use Rattle.book_cli.proofs.CommandReading.{Asks, Text, Seen, asked, line_back, line_read, see_all, start}
 use Rattle.book_cli.proofs.CommandWalk.{Fits, Pending, Stands, Walked, at_none, continue_rule, count_rule, flag_row, found_other, found_own, has_none, has_one, held, mode_rule, or_no_kind, row, row_at, rules, shape, show_rule, walk_at, walks}

@@ -14,7 +14,7 @@ use Rattle.clap.specs.Simple.{built, filled, with_index, Shape}
 use Rattle.clap.specs.Faults.{walk_fault, bundle_fault, bundle_step_fault, flag_word_fault, flags_fault, long_fault, word_fault, react_fault, positional_fault, settle_fault, use_fault, step_fault, turn_fault}
 use Rattle.clap.specs.declared.parser.matches.ValueSource.TheVariants.{CommandLine}
 use Rattle.clap.specs.declared.builder.value_parser.Reading.TheVariants.{AsWritten}
-use Rattle.book_cli.specs.CommandMatches.{derive_app, mode_arg, count_arg, continue_arg, show_arg}
+use Rattle.book_cli.specs.view.CommandMatches.{derive_app, mode_arg, count_arg, continue_arg, show_arg}
 use Rattle.book_cli.proofs.CommandReading.{Text, Seen, before_more, with_operand, with_flag, with_continue, with_show, see, see_all}
 use Rattle.book_cli.specs.CommandLines.{ends_flags, is_dashed}
 use Rattle.clap.specs.Lexer.{long_of, short_of, has_byte}

@@ -7,7 +7,7 @@ use Rattle.lisp_data.specs.declared.code.Code.{Code}
 use Rattle.ports.specs.Streams.{Grows, GrowsByFront}
 use Rattle.ports.proofs.Streams.{Grows-trans}
 use Rattle.book_cli.specs.declared.progress.Progress.{Progress}
-use Rattle.book_cli.specs.Begun.{IsBegun}
+use Rattle.book_cli.specs.view.Begun.{IsBegun}
 use Rattle.events.specs.Verdicts.{Verdict, Accepted, Redundant, Printed, Refused, verdict}
 use Rattle.book_cli.specs.Report.{Read, IsNext, all_lines, after, is_refusal, goes_on, event_line, turn_lines, end_lines, report_from, world_from, accepts, last_line}
 

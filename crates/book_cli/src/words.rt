@@ -4,7 +4,7 @@ ghost use Rattle.std.specs.Prelude.{◌≡◌, IfOk, IfErr, IsUtf8, map, option_
 ghost use Rattle.std.specs.List.{All};
 ghost use Rattle.clap.specs.Words.{app_of, found_of, kind_of, rows_of};
 ghost use Rattle.book_cli.specs.CommandLines.{IsModeLine, IsRefusalOf, continues, shows};
-ghost use Rattle.book_cli.specs.CommandMatches.{HasFlags, derive_app, is_check, line_in};
+ghost use Rattle.book_cli.specs.view.CommandMatches.{HasFlags, derive_app, is_check, line_in};
 
 use clap::error::ErrorKind;
 use clap::{Arg, ArgAction, ArgMatches, Command, Error};

@@ -8,7 +8,7 @@ use Rattle.terms.specs.declared.definition.Definition.{Definition}
 use Rattle.terms.specs.Definitions.{find}
 use Rattle.terms.specs.Evaluation.{bind}
 use Rattle.evaluator.specs.Counted.{Refusal, Outcome, Stops, then_step, Act}
-use Rattle.evaluator.specs.Machines.{Waiting, Rest, Either, continue, resumed, env_of, height, base, top, waiting, Lies, Inside, Stacked, StopsWith, weight, heaviest}
+use Rattle.evaluator.specs.view.Machines.{Waiting, Rest, Either, continue, resumed, env_of, height, base, top, waiting, Lies, Inside, Stacked, StopsWith, weight, heaviest}
 use Rattle.evaluator.specs.declared.machine.Scope.{Scope}
 use Rattle.evaluator.specs.declared.machine.Frame.{Frame}
 use Rattle.evaluator.specs.declared.machine.Frame.TheVariants.{Arguments, Branches}

@@ -12,7 +12,7 @@ use Rattle.terms.proofs.Args.{count-tms}
 use Rattle.terms.specs.declared.definition.Definition.{Definition}
 use Rattle.terms.specs.Evaluation.{bind}
 use Rattle.evaluator.specs.Counted.{Refusal, IsVariable, ManyCalls, Wide, Large, Stuck, Outcome, Gives, Stops, Step, then_step, gathered, taken, steps, answered, found_in, Act, counted, entered, body_run, told}
-use Rattle.evaluator.specs.Machines.{Waiting, Rest, Either, continue, resumed, height, base, waiting, Inside, Stacked, vals, act_of, LiesIn, now, whole, heaviest, load, weight_of, effort, Leads, Goes, StopsWith, RefusedAs, FoundOr, env_of, weight, weights, IsLowered}
+use Rattle.evaluator.specs.view.Machines.{Waiting, Rest, Either, continue, resumed, height, base, waiting, Inside, Stacked, vals, act_of, LiesIn, now, whole, heaviest, load, weight_of, effort, Leads, Goes, StopsWith, RefusedAs, FoundOr, env_of, weight, weights, IsLowered}
 use Rattle.evaluator.specs.declared.machine.Frame.{Frame}
 use Rattle.evaluator.specs.declared.machine.Control.{Control}
 use Rattle.evaluator.specs.declared.machine.Machine.{Machine}

@@ -1,6 +1,8 @@
-pub mod Answers
-pub mod Callees
+-- Names that crates above use.
+pub use Rattle.evaluator.specs.view.Answers
+pub use Rattle.evaluator.specs.view.Callees
+pub use Rattle.evaluator.specs.view.Machines
+pub use Rattle.evaluator.specs.view.Table
 pub mod Counted
 pub mod Laws
-pub mod Machines
-pub mod Table
+pub mod view

@@ -2,7 +2,7 @@
 
 ghost use Rattle.std.specs.Prelude.{◌<◌, List, IfOk};
 ghost use Rattle.terms.specs.declared.definition.Definition.{Definition};
-ghost use Rattle.evaluator.specs.Callees.{IsCallee, Knows};
+ghost use Rattle.evaluator.specs.view.Callees.{IsCallee, Knows};
 
 use crate::primitives::{Primitive, find_primitive};
 use lisp_data::{Memory, Symbol};

@@ -7,8 +7,8 @@ ghost use Rattle.terms.specs.Primitives as primitives_of;
 ghost use Rattle.terms.specs.Evaluation.{bind};
 ghost use Rattle.terms.specs.declared.definition.Definition.{Definition};
 ghost use Rattle.evaluator.specs.Counted.{gathered, taken, counted, steps, evaluated, entered, body_run};
-ghost use Rattle.evaluator.specs.Callees.{Knows};
-ghost use Rattle.evaluator.specs.Machines as spec;
+ghost use Rattle.evaluator.specs.view.Callees.{Knows};
+ghost use Rattle.evaluator.specs.view.Machines as spec;
 
 use crate::callees::{Callee, Callees};
 use crate::errors::Halt;

@@ -5,7 +5,7 @@ ghost use Rattle.lisp_data.specs.FormView.{form_of, IsProper, AllProper};
 ghost use Rattle.terms.specs.Worlds.{is_in};
 ghost use Rattle.event_forms.specs.Shapes as spec;
 ghost use Rattle.event_forms.specs.Refused.{Says};
-ghost use Rattle.event_forms.specs.ShapeView.{seen, HasProperParts};
+ghost use Rattle.event_forms.specs.view.ShapeView.{seen, HasProperParts};
 
 use crate::clauses::given_clauses;
 use crate::declarations::{body, declared_value, declares_unbuilt};

@@ -5,7 +5,7 @@ use Rattle.lisp_data.specs.Datum.{Datum}
 use Rattle.event_forms.specs.Clauses.{with_clause}
 use Rattle.proof_texts.proofs.ItemLemmas.{proper_at}
 use Rattle.plans.specs.declared.plan.Condition.{Condition}
-use Rattle.events.specs.Halts.{of_condition, text_under}
+use Rattle.events.specs.view.Halts.{of_condition, text_under}
 use Rattle.events.specs.Verdicts.{are_conditions, clause_of}
 
 pub conditions-with : (cs : List Condition) (o : Option (Name × Datum)) (ps : List (Name × Datum)) → are_conditions cs (with_clause o ps) ≡ (of_condition cs o && are_conditions cs ps)

@@ -13,7 +13,7 @@ use Rattle.events.specs.declared.clauses.Way.{Way}
 use Rattle.plans.specs.Entries.{AdmitsAll, add_entries, add_functions}
 use Rattle.plans.specs.Proving.{ProvesAll, owed_before, sequents}
 use Rattle.events.specs.Frames.{Judged, Clauses, coded, goes_on}
-use Rattle.events.specs.Halts.{IsMade, AreProvedAfter, joined}
+use Rattle.events.specs.view.Halts.{IsMade, AreProvedAfter, joined}
 use Rattle.plans.specs.Plans.{IsLawfulPlan, IsDirect}
 use Rattle.events.specs.Verdicts.{of_conditions, ways, all_proved, proved}
 use Rattle.events.proofs.Inversions.{map_ok}

@@ -6,7 +6,7 @@ use Rattle.kernel.specs.Conclusion.{Conclusion}
 use Rattle.plans.specs.declared.plan.Condition.{Condition}
 use Rattle.events.specs.declared.clauses.Way.{Way}
 use Rattle.events.specs.Frames.{goes_on}
-use Rattle.events.specs.Halts.{IsProvedOne, AreProvedAfter}
+use Rattle.events.specs.view.Halts.{IsProvedOne, AreProvedAfter}
 use Rattle.events.specs.Verdicts.{all_proved}
 
 -- none is left

@@ -10,7 +10,7 @@ use Rattle.term_forms.specs.TranslationView.{SaysOutcome}
 use Rattle.term_forms.specs.declared.translation.TermError.{TermError}
 use Rattle.term_forms.specs.declared.translation.TermError.TheVariants as term
 use Rattle.event_forms.specs.Shapes.{Event, event_of}
-use Rattle.events.specs.Halts.{IsRefusal, IsFromTerm, Reads, Answers}
+use Rattle.events.specs.view.Halts.{IsRefusal, IsFromTerm, Reads, Answers}
 use Rattle.events.specs.Lines.{text_of, refused_line}
 use Rattle.events.specs.Refusals.{refusal_code}
 use Rattle.events.specs.Steps.{IsStep}

@@ -1,3 +1,5 @@
+-- Names that crates above use.
+pub use Rattle.events.specs.view.Halts
 pub mod Definitions
 pub mod Frames
 pub mod InPackage
@@ -12,5 +14,5 @@ pub mod ModelValues
 pub mod Refusals
 pub mod Lines
 pub mod Steps
-pub mod Halts
 pub mod Laws
+pub mod view

@@ -4,7 +4,7 @@ ghost use Rattle.std.specs.Prelude.{◌≡◌, map, IfSome, option_map};
 ghost use Rattle.lisp_data.specs.FormView.{form_of, IsProper, AllProper};
 ghost use Rattle.event_forms.specs.Clauses.{clause_of, clauses_in};
 ghost use Rattle.events.specs.Verdicts as spec;
-ghost use Rattle.events.specs.Halts.{Reads, clauses_seen, AreProper, joined, of_condition, text_under};
+ghost use Rattle.events.specs.view.Halts.{Reads, clauses_seen, AreProper, joined, of_condition, text_under};
 
 use crate::halt::Halt;
 use event_forms::clause;

@@ -6,7 +6,7 @@ ghost use Rattle.term_forms.specs.Translation.{distinct_after};
 ghost use Rattle.measures.specs.DefaultMeasure as defaults;
 ghost use Rattle.event_forms.specs.ShapeView.{function_seen, IsProperFunction};
 ghost use Rattle.events.specs.Definitions as spec;
-ghost use Rattle.events.specs.Halts.{Reads};
+ghost use Rattle.events.specs.view.Halts.{Reads};
 
 use crate::halt::Halt;
 use crate::names::is_among;

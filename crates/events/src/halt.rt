@@ -22,7 +22,7 @@ impl Halt {
     ghost use Rattle.std.specs.Prelude.{◌≡◌};
     ghost use Rattle.events.specs.declared.halt.Halt.TheVariants.{Refused};
     ghost use Rattle.events.specs.declared.refusal.Refusal.TheVariants.{Coded};
-    ghost use Rattle.events.specs.Halts.{IsCoded};
+    ghost use Rattle.events.specs.view.Halts.{IsCoded};
 
     /// A code says it all.
     fn without_detail(code: Code) -> Halt
@@ -87,7 +87,7 @@ impl From<Memory> for Halt {
 }
 
 impl From<EventError> for Halt {
-    ghost use Rattle.events.specs.Halts.{IsFromEvent};
+    ghost use Rattle.events.specs.view.Halts.{IsFromEvent};
 
     ghost from_gives = { λ t e. IsFromEvent t e };
 
@@ -102,7 +102,7 @@ impl From<EventError> for Halt {
 }
 
 impl From<ProofError> for Halt {
-    ghost use Rattle.events.specs.Halts.{IsFromProof};
+    ghost use Rattle.events.specs.view.Halts.{IsFromProof};
 
     ghost from_gives = { λ t e. IsFromProof t e };
 
@@ -117,7 +117,7 @@ impl From<ProofError> for Halt {
 }
 
 impl From<TermError> for Halt {
-    ghost use Rattle.events.specs.Halts.{IsFromTerm};
+    ghost use Rattle.events.specs.view.Halts.{IsFromTerm};
 
     ghost from_gives = { λ t e. IsFromTerm t e };
 
@@ -130,7 +130,7 @@ impl From<TermError> for Halt {
 }
 
 impl From<EvalError> for Halt {
-    ghost use Rattle.events.specs.Halts.{IsFromEvaluation};
+    ghost use Rattle.events.specs.view.Halts.{IsFromEvaluation};
 
     ghost from_gives = { λ t e. IsFromEvaluation t e };
 

@@ -5,7 +5,7 @@ ghost use Rattle.lisp_data.specs.FormView.{form_of, IsProper};
 ghost use Rattle.terms.specs.Sound.{add_event};
 ghost use Rattle.plans.specs.Plans.{IsLawfulPlan, IsDirect};
 ghost use Rattle.events.specs.Verdicts.{proved, checked};
-ghost use Rattle.events.specs.Halts.{Judges, Handles, clauses_seen, AreProper};
+ghost use Rattle.events.specs.view.Halts.{Judges, Handles, clauses_seen, AreProper};
 
 use crate::clauses::{Clauses, Ways, check_clauses, read_ways};
 use crate::halt::Halt;

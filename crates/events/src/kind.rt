@@ -5,7 +5,7 @@ ghost use Rattle.plans.specs.Plans.{IsDirect};
 ghost use Rattle.events.specs.Frames.{Frame};
 ghost use Rattle.events.specs.Laws.{IsLawful};
 ghost use Rattle.events.specs.Verdicts.{new_names};
-ghost use Rattle.events.specs.Halts.{Says, clauses_seen, AreProper, repeats_seen, HasProperFormula};
+ghost use Rattle.events.specs.view.Halts.{Says, clauses_seen, AreProper, repeats_seen, HasProperFormula};
 
 use crate::clauses::Clauses;
 use crate::halt::Halt;

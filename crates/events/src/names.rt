@@ -3,7 +3,7 @@
 ghost use Rattle.std.specs.Prelude.{◌≡◌};
 ghost use Rattle.terms.specs.Worlds.{is_in};
 ghost use Rattle.events.specs.Definitions.{new_name};
-ghost use Rattle.events.specs.Halts.{Reads};
+ghost use Rattle.events.specs.view.Halts.{Reads};
 ghost use Rattle.events.specs.Verdicts.{name_after, new_names};
 
 use crate::halt::Halt;

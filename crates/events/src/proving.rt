@@ -1,7 +1,7 @@
 //! The conditions of an event, proved one after the other.
 
 ghost use Rattle.events.specs.declared.clauses.Way.TheVariants.{ByProof};
-ghost use Rattle.events.specs.Halts.{IsWrong, IsStopped, ProvesOne, ProvesAfter};
+ghost use Rattle.events.specs.view.Halts.{IsWrong, IsStopped, ProvesOne, ProvesAfter};
 
 use crate::clauses::Way;
 use crate::halt::Halt;

@@ -4,7 +4,7 @@ ghost use Rattle.std.specs.Prelude.{◌≡◌, IfOk};
 ghost use Rattle.lisp_data.specs.FormView.{form_of, IsProper};
 ghost use Rattle.worlds.specs.Events.{find_defthm};
 ghost use Rattle.event_forms.specs.Shapes.{event_of};
-ghost use Rattle.events.specs.Halts.{repeats_seen, HasProperFormula};
+ghost use Rattle.events.specs.view.Halts.{repeats_seen, HasProperFormula};
 ghost use Rattle.events.specs.Redundancy as spec;
 
 use event_forms::{Event, EventError, read_event};

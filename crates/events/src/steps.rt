@@ -3,7 +3,7 @@
 ghost use Rattle.std.specs.Prelude.{◌≡◌, IfOk};
 ghost use Rattle.lisp_data.specs.FormView.{form_of, IsProper};
 ghost use Rattle.event_forms.specs.Shapes.{event_of};
-ghost use Rattle.events.specs.Halts.{Answers};
+ghost use Rattle.events.specs.view.Halts.{Answers};
 ghost use Rattle.events.specs.Steps.{IsStep};
 
 use crate::halt::Halt;

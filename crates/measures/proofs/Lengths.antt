@@ -7,7 +7,7 @@ use Rattle.terms.specs.Worlds.{Each}
 use Rattle.terms.specs.Measures.{RecursiveCall, Place, next, first_place, tests_at, is_nested, recursive_calls, recursive_calls_in}
 use Rattle.terms.proofs.Names.{same_name}
 use Rattle.terms.proofs.Args.{count-tms}
-use Rattle.measures.specs.Calls.{call_of, CallsTake}
+use Rattle.measures.specs.view.Calls.{call_of, CallsTake}
 use Rattle.measures.specs.Outcomes.{calls_or_cause}
 use Rattle.measures.specs.declared.errors.MeasureError.TheVariants.{Nested}
 use Rattle.measures.specs.declared.calls.RecursiveCall.{RecursiveCall as CallInCode}

@@ -8,7 +8,7 @@ use Rattle.terms.specs.Terms.{Tm, Var, Quote, Call, Tms, Done, More, tms}
 use Rattle.terms.specs.Measures.{RecursiveCall, Place, next, first_place, tests_at, mentions, mentions_in, falls, recursive_calls, recursive_calls_in, owed_by, obligations}
 use Rattle.terms.specs.declared.definition.Definition.{Definition}
 use Rattle.terms.proofs.Args.{args, tms-drop}
-use Rattle.measures.specs.Calls.{calls_of, calls_in}
+use Rattle.measures.specs.view.Calls.{calls_of, calls_in}
 
 here : (b : Bool) (c : RecursiveCall) → length (cond b (c ∷ []) []) ≡ cond b 1 0
 here true c = refl

@@ -3,7 +3,7 @@
 ghost use Rattle.std.specs.Prelude.{◌≡◌, [], ◌∷◌, ◌++◌, cond, map, IfOk, OnOk};
 ghost use Rattle.terms.specs.Terms.{tms};
 ghost use Rattle.terms.specs.Measures as spec;
-ghost use Rattle.measures.specs.Calls.{call_of, place_of};
+ghost use Rattle.measures.specs.view.Calls.{call_of, place_of};
 ghost use Rattle.measures.specs.Outcomes.{Says, calls_or_cause};
 
 use crate::errors::MeasureError;

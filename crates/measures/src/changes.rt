@@ -5,7 +5,7 @@ ghost use Rattle.std.specs.List.{list_all};
 ghost use Rattle.std.specs.Option.{option_copied};
 ghost use Rattle.terms.specs.Substitution.{or_var};
 ghost use Rattle.terms.specs.Terms.{by_args, tms};
-ghost use Rattle.measures.specs.Calls.{call_of};
+ghost use Rattle.measures.specs.view.Calls.{call_of};
 ghost use Rattle.measures.specs.DefaultMeasure as spec;
 
 use crate::calls::RecursiveCall;

@@ -3,7 +3,7 @@
 ghost use Rattle.std.specs.Prelude.{◌≡◌, ◌-◌, length, nat_lt};
 ghost use Rattle.terms.specs.Terms.{tms};
 ghost use Rattle.terms.specs.Measures as spec;
-ghost use Rattle.measures.specs.Calls.{calls_of, calls_in};
+ghost use Rattle.measures.specs.view.Calls.{calls_of, calls_in};
 
 use lisp_data::Symbol;
 use terms::{Definition, Node, Term};

@@ -3,7 +3,7 @@
 ghost use Rattle.std.specs.Prelude.{◌≡◌, map};
 ghost use Rattle.std.specs.Option.{option_copied};
 ghost use Rattle.terms.specs.Terms.{tms};
-ghost use Rattle.measures.specs.Calls.{call_of};
+ghost use Rattle.measures.specs.view.Calls.{call_of};
 ghost use Rattle.measures.specs.DefaultMeasure as spec;
 ghost use Rattle.measures.specs.Outcomes.{Says};
 

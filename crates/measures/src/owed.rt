@@ -6,7 +6,7 @@ ghost use Rattle.terms.specs.Terms.{same_tm};
 ghost use Rattle.terms.specs.Joins.{without_repeats};
 ghost use Rattle.terms.specs.Worlds.{Distinct};
 ghost use Rattle.terms.specs.Measures as spec;
-ghost use Rattle.measures.specs.Calls.{call_of, CallsTake};
+ghost use Rattle.measures.specs.view.Calls.{call_of, CallsTake};
 ghost use Rattle.measures.specs.Outcomes.{Says, obligations_or_cause};
 
 use crate::calls::{RecursiveCall, recursive_calls};

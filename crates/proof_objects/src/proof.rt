@@ -2,7 +2,7 @@
 
 ghost use Rattle.std.specs.Prelude.{◌≡◌, ◌≤◌, IfOk};
 ghost use Rattle.proof_objects.specs.ProofTrees.{By, trees, depths};
-ghost use Rattle.proof_objects.specs.ProofView.{tree_of, chain_depth};
+ghost use Rattle.proof_objects.specs.view.ProofView.{tree_of, chain_depth};
 
 use crate::step::Step;
 use lisp_data::{Memory, Seq};
@@ -65,7 +65,7 @@ impl Model for Proof {
 
     ghost coded = { tree_code };
 
-    ghost use Rattle.proof_objects.specs.ProofView.{tree_of, chain_depth};
+    ghost use Rattle.proof_objects.specs.view.ProofView.{tree_of, chain_depth};
 
     ghost view = { λ p. tree_of p.shared.value.node.value };
 
@@ -73,7 +73,7 @@ impl Model for Proof {
 
     ghost size = { depth };
 
-    ghost use Rattle.proof_objects.specs.ProofFalls.{shared_below};
+    ghost use Rattle.proof_objects.specs.view.ProofFalls.{shared_below};
 
     ghost size_decreases = { λ a h. shared_below a.shared.value h };
 }

@@ -1,6 +1,7 @@
+-- Names that crates above use.
+pub use Rattle.proof_texts.specs.view.ErrorView
 pub mod Items
 pub mod Refused
-pub mod ErrorView
 pub mod Words
 pub mod Parts
 pub mod StepParts
@@ -8,3 +9,4 @@ pub mod ProofTexts
 pub mod Given
 pub mod Printing
 pub mod Laws
+pub mod view

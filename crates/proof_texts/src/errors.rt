@@ -71,7 +71,7 @@ impl From<Memory> for ProofError {
 }
 
 impl From<TermError> for ProofError {
-    ghost use Rattle.proof_texts.specs.ErrorView.{IsFrom};
+    ghost use Rattle.proof_texts.specs.view.ErrorView.{IsFrom};
 
     ghost from_gives = { λ t e. IsFrom t e };
 

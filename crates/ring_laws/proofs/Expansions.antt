@@ -11,8 +11,8 @@ use Rattle.ring_laws.specs.Expressions.{Expression, Literal, Atom, Sum, Product,
 use Rattle.ring_laws.specs.FormalSums.{coefficient, support, negated, products, coefficients_agree}
 use Rattle.ring_laws.specs.Polynomials.{monomials, norm, same_polynomial}
 use Rattle.ring_laws.specs.Limits.{excess, own_excess, first_excess, excess_of}
-use Rattle.ring_laws.specs.Held.{held, exponents, together, by_exponents, SameSum, HasAtoms, with_atoms}
-use Rattle.ring_laws.specs.Expansions.{excess_at, SaysSum, SaysExpansion, SaysLimit}
+use Rattle.ring_laws.specs.view.Held.{held, exponents, together, by_exponents, SameSum, HasAtoms, with_atoms}
+use Rattle.ring_laws.specs.view.Expansions.{excess_at, SaysSum, SaysExpansion, SaysLimit}
 use Rattle.ring_laws.proofs.Support.{same_size}
 use Rattle.ring_laws.proofs.Exponents.{covered, size_key, compared, sum_expanded, product_expanded, negation_expanded, has_first, has_second}
 use Rattle.ring_laws.specs.declared.limits.TheConstants.{MAX_MONOMIALS, MAX_NORM}

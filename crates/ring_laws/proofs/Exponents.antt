@@ -11,7 +11,7 @@ use Rattle.terms.proofs.Same.{same_term, term_self}
 use Rattle.ring_laws.specs.Expressions.{Expression, Literal, Atom, Sum, Product, Negation}
 use Rattle.ring_laws.specs.FormalSums.{coefficient, coefficients_agree, distinct_keys, support, negated, times_each, products}
 use Rattle.ring_laws.specs.Polynomials.{Monomials, count_in, alike, monomials}
-use Rattle.ring_laws.specs.Held.{exponents, together, by_exponents, SameSum, HasAtoms, with_atom, with_atoms}
+use Rattle.ring_laws.specs.view.Held.{exponents, together, by_exponents, SameSum, HasAtoms, with_atom, with_atoms}
 use Rattle.ring_laws.proofs.Integers.{one-product, product-one, product-sum}
 use Rattle.ring_laws.proofs.Sums.{coefficient-append, coefficient-negated, weighted, weighted-more, weighted-none, same_weight, agreement}
 use Rattle.ring_laws.proofs.Multisets.{count-append, alike_counts, both_true}

@@ -15,7 +15,7 @@ use Rattle.std.specs.BTreeMap.{insert_entry, is_at}
 use Rattle.std.proofs.lemmas.Cmp.{nat_list_cmp_total, nat_list_eq_equiv}
 use Rattle.terms.proofs.Names.{same_name}
 use Rattle.ring_laws.specs.FormalSums.{coefficient, support, negated, times_each}
-use Rattle.ring_laws.specs.Held.{held, together, SameSum}
+use Rattle.ring_laws.specs.view.Held.{held, together, SameSum}
 use Rattle.ring_laws.proofs.Integers.{one-product, product-neg}
 use Rattle.ring_laws.proofs.Sums.{coefficient-append}
 use Rattle.ring_laws.proofs.Support.{Apart, as_many, support-has, support-apart}

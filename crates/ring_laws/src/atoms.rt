@@ -5,7 +5,7 @@ ghost use Rattle.std.specs.List.{list_any};
 ghost use Rattle.terms.specs.Terms.{same_tm};
 ghost use Rattle.ring_laws.specs.Expressions.{expression};
 ghost use Rattle.ring_laws.specs.Polynomials.{count_in};
-ghost use Rattle.ring_laws.specs.Held.{exponents, together, with_atom, with_atoms};
+ghost use Rattle.ring_laws.specs.view.Held.{exponents, together, with_atom, with_atoms};
 
 use crate::shape::{Reading, read};
 use lists::{Memory, Seq};

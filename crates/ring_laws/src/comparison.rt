@@ -4,7 +4,7 @@ ghost use Rattle.std.specs.Prelude.{◌≡◌, ◌↔◌, true, IsTrue, IfOk};
 ghost use Rattle.ring_laws.specs.Expressions.{is_arithmetic};
 ghost use Rattle.ring_laws.specs.Polynomials.{SamePolynomial, same_polynomial};
 ghost use Rattle.ring_laws.specs.Limits.{excess_of};
-ghost use Rattle.ring_laws.specs.Expansions.{SaysLimit};
+ghost use Rattle.ring_laws.specs.view.Expansions.{SaysLimit};
 
 use crate::atoms::collect;
 use crate::errors::RingError;

@@ -3,8 +3,8 @@
 ghost use Rattle.std.specs.Prelude.{◌≡◌, ◌+◌, ◌*◌, ◌-◌, ◌^◌, ◌≤◌, [], ◌∷◌, ◌++◌, pos, nat_abs, IfOk};
 ghost use Rattle.ring_laws.specs.Expressions.{expression};
 ghost use Rattle.ring_laws.specs.FormalSums.{negated, products};
-ghost use Rattle.ring_laws.specs.Held.{held, exponents, together, HasAtoms};
-ghost use Rattle.ring_laws.specs.Expansions.{SaysSum, SaysExpansion};
+ghost use Rattle.ring_laws.specs.view.Held.{held, exponents, together, HasAtoms};
+ghost use Rattle.ring_laws.specs.view.Expansions.{SaysSum, SaysExpansion};
 ghost use Rattle.ring_laws.specs.declared.limits.TheConstants.{MAX_NORM};
 
 use crate::atoms::{exponents_of, exponents_of_none};

@@ -5,7 +5,7 @@ ghost use Rattle.std.specs.List.{list_all, filter};
 ghost use Rattle.std.specs.BTreeMap.{values};
 ghost use Rattle.std.specs.Ordering.{int_eq};
 ghost use Rattle.ring_laws.specs.FormalSums.{coefficient, coefficients_agree, support, negated, times_each, products};
-ghost use Rattle.ring_laws.specs.Held.{held, together, SameSum};
+ghost use Rattle.ring_laws.specs.view.Held.{held, together, SameSum};
 
 use crate::atoms::together;
 use lists::Memory;

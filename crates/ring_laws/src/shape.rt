@@ -2,7 +2,7 @@
 
 ghost use Rattle.std.specs.Prelude.{◌≡◌};
 ghost use Rattle.ring_laws.specs.Expressions.{expression, is_arithmetic as arithmetic};
-ghost use Rattle.ring_laws.specs.Readings.{as_expression, IsBelow};
+ghost use Rattle.ring_laws.specs.view.Readings.{as_expression, IsBelow};
 
 use lisp_data::Value;
 use terms::{Node, Term};

@@ -21,7 +21,7 @@ use Rattle.terms.specs.Substitution.{Pairs}
 use Rattle.term_forms.specs.Names.{is_variable_name}
 use Rattle.terms.specs.Worlds.{is_in}
 use Rattle.term_forms.specs.Translation.{Outcome, and_then, map_outcome, and_rest, bad_form, bound_name, bound_names, distinct_after, is_list}
-use Rattle.term_forms.specs.TranslationView.{SaysOutcome}
+use Rattle.term_forms.specs.view.TranslationView.{SaysOutcome}
 use Rattle.term_forms.specs.Shapes.{pair_of}
 use Rattle.term_forms.specs.Bindings.{names_of, binding_form, variable_of, AreAllProper, SaysBindings}
 use Rattle.term_forms.specs.Outcomes.{each}

@@ -5,7 +5,7 @@ use Rattle.term_forms.specs.declared.translation.TermError.{TermError}
 use Rattle.term_forms.specs.declared.translation.TermError.TheVariants.{Refused, Memory}
 use Rattle.terms.specs.Terms.{Tm}
 use Rattle.term_forms.specs.Translation.{Takes, Scope, Outcome, Clause, and_then, map_outcome, bad_form, limited, translate, clause, is_t, chosen}
-use Rattle.term_forms.specs.TranslationView.{SaysOutcome}
+use Rattle.term_forms.specs.view.TranslationView.{SaysOutcome}
 use Rattle.term_forms.specs.Shapes.{pair_of}
 use Rattle.term_forms.specs.Outcomes.{each}
 

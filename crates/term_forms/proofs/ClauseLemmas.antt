@@ -7,7 +7,7 @@ use Rattle.term_forms.specs.declared.translation.TermError.TheVariants.{Refused,
 use Rattle.terms.specs.Terms.{Tm}
 use Rattle.term_forms.specs.Macros.{if_of}
 use Rattle.term_forms.specs.Translation.{Clause, chosen, limited}
-use Rattle.term_forms.specs.TranslationView.{SaysOutcome}
+use Rattle.term_forms.specs.view.TranslationView.{SaysOutcome}
 use Rattle.term_forms.specs.Words.{folded}
 use Rattle.term_forms.specs.Clauses.{open_clauses, choice, behind_open}
 use Rattle.term_forms.proofs.Growing.{limited-same, larger-refused}

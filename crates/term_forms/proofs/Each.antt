@@ -5,7 +5,7 @@ use Rattle.std.proofs.lemmas.List.{append-nil, drop_all}
 use Rattle.term_forms.specs.declared.translation.TermError.{TermError}
 use Rattle.term_forms.specs.declared.translation.TermError.TheVariants.{Refused, Memory}
 use Rattle.term_forms.specs.Translation.{Outcome, and_rest, and_then, map_outcome}
-use Rattle.term_forms.specs.TranslationView.{SaysOutcome}
+use Rattle.term_forms.specs.view.TranslationView.{SaysOutcome}
 use Rattle.term_forms.specs.Outcomes.{each, after}
 
 -- a refusal of the first is one of both

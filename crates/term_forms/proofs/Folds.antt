@@ -9,7 +9,7 @@ use Rattle.terms.specs.Terms.{Tm}
 use Rattle.terms.specs.Measures.{call2}
 use Rattle.term_forms.specs.Macros.{list_of, nil_term}
 use Rattle.term_forms.specs.Translation.{limited}
-use Rattle.term_forms.specs.TranslationView.{SaysOutcome}
+use Rattle.term_forms.specs.view.TranslationView.{SaysOutcome}
 use Rattle.term_forms.specs.Words.{of_parts, joined, folded}
 use Rattle.term_forms.proofs.Growing.{IsWithin, limited-same, larger-refused}
 

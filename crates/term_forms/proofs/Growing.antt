@@ -9,7 +9,7 @@ use Rattle.term_forms.specs.declared.translation.TermError.TheVariants.{Refused,
 use Rattle.terms.specs.Terms.{Tm, Call, Tms, More, tms, nodes, substitute, substitute_all}
 use Rattle.terms.specs.Measures.{call1, call2}
 use Rattle.term_forms.specs.Translation.{Outcome, and_rest, levels, limited, is_limited, too_large}
-use Rattle.term_forms.specs.TranslationView.{SaysOutcome}
+use Rattle.term_forms.specs.view.TranslationView.{SaysOutcome}
 use Rattle.term_forms.specs.Outcomes.{each}
 use Rattle.term_forms.specs.declared.limits.TheConstants.{MAX_LEVELS, MAX_NODES}
 

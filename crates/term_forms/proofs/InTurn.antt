@@ -6,7 +6,7 @@ use Rattle.term_forms.specs.declared.translation.TermError.TheVariants.{Refused,
 use Rattle.terms.specs.Terms.{Tm, Var, Quote, Call, Tms, Done, More, nodes, nodes_in, substitute, substitute_all}
 use Rattle.terms.specs.Substitution.{Pairs, by_pairs}
 use Rattle.term_forms.specs.Translation.{levels, levels_in, limited}
-use Rattle.term_forms.specs.TranslationView.{SaysOutcome}
+use Rattle.term_forms.specs.view.TranslationView.{SaysOutcome}
 use Rattle.term_forms.specs.Words.{folded}
 use Rattle.term_forms.specs.Bindings.{replaced_by}
 use Rattle.term_forms.proofs.Growing.{limited-same, larger-refused}

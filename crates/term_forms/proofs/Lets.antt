@@ -14,7 +14,7 @@ use Rattle.term_forms.specs.declared.bindings.Binding.{Binding}
 use Rattle.terms.specs.Terms.{Tm, substitute}
 use Rattle.terms.specs.Substitution.{Pairs, by_pairs}
 use Rattle.term_forms.specs.Translation.{Takes, Scope, Outcome, and_then, map_outcome, and_rest, limited, let_of, bound_names, bound_terms, in_turn, distinct_after, with_names, translate}
-use Rattle.term_forms.specs.TranslationView.{SaysOutcome}
+use Rattle.term_forms.specs.view.TranslationView.{SaysOutcome}
 use Rattle.term_forms.specs.Bindings.{names_of, binding_form, replaced_by, AreAllProper, SaysBindings}
 use Rattle.term_forms.specs.Lets.{let_outcome, in_turn_outcome, after_bindings}
 use Rattle.term_forms.specs.Outcomes.{each}

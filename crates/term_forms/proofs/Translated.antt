@@ -23,7 +23,7 @@ use Rattle.term_forms.specs.Heads.{IsOther, IsWord, head_of}
 use Rattle.term_forms.specs.Outcomes.{each}
 use Rattle.term_forms.specs.Translation.{Takes, Scope, Outcome, and_then, map_outcome, and_rest, bad_form, too_large, is_small, limited, is_list, items, head, word_head, parts_if, quoted, applied, translate, by_word, terms, chosen, clause, clauses}
 use Rattle.lisp_reader.specs.FormValue.{has_text, value}
-use Rattle.term_forms.specs.TranslationView.{SaysOutcome}
+use Rattle.term_forms.specs.view.TranslationView.{SaysOutcome}
 use Rattle.terms.proofs.Names.{name_apart}
 use Rattle.term_forms.proofs.Each.{each-more, each-refused, each-end, each-length}
 

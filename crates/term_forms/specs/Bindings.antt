@@ -7,7 +7,7 @@ use Rattle.terms.specs.Terms.{Tm, substitute}
 use Rattle.terms.specs.Substitution.{by_pairs}
 use Rattle.term_forms.specs.Names.{is_variable_name}
 use Rattle.term_forms.specs.Translation.{Scope, Outcome, bad_form, bound_name, bound_names, with_names}
-use Rattle.term_forms.specs.TranslationView.{allowed, SaysOutcome}
+use Rattle.term_forms.specs.view.TranslationView.{allowed, SaysOutcome}
 use Rattle.term_forms.specs.declared.bindings.Binding.{Binding}
 use Rattle.term_forms.specs.declared.bindings.Variables.{Variables}
 use Rattle.term_forms.specs.declared.translation.TermError.{TermError}

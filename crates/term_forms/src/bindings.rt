@@ -14,7 +14,7 @@ ghost use Rattle.term_forms.specs.Translation as spec;
 ghost use Rattle.lisp_data.specs.Datum.{chain, nil_form};
 ghost use Rattle.lisp_data.specs.FormView.{form_of, IsProper, AllProper};
 ghost use Rattle.std.specs.List.{zip};
-ghost use Rattle.term_forms.specs.TranslationView.{allowed, SaysOutcome};
+ghost use Rattle.term_forms.specs.view.TranslationView.{allowed, SaysOutcome};
 
 use crate::counted::Counted;
 use crate::naming::is_variable_name;

@@ -3,7 +3,7 @@
 ghost use Rattle.std.specs.Prelude.{◌≡◌, IfOk};
 ghost use Rattle.term_forms.specs.Clauses.{open_clauses, choice, behind_open};
 ghost use Rattle.term_forms.specs.Translation.{chosen, limited};
-ghost use Rattle.term_forms.specs.TranslationView.{SaysOutcome};
+ghost use Rattle.term_forms.specs.view.TranslationView.{SaysOutcome};
 ghost use Rattle.term_forms.specs.Words.{folded};
 
 use crate::counted::Counted;
@@ -32,7 +32,7 @@ impl Drop for Clause {
 
 impl Model for Clause {
     ghost use Rattle.term_forms.specs.Translation as spec;
-    ghost use Rattle.term_forms.specs.ClauseCode.{clause_code};
+    ghost use Rattle.term_forms.specs.view.ClauseCode.{clause_code};
 
     ghost Value = { spec.Clause };
 

@@ -4,7 +4,7 @@ ghost use Rattle.std.specs.Prelude.{◌≡◌, IfOk};
 ghost use Rattle.lisp_data.specs.ValueView.{val_of};
 ghost use Rattle.terms.specs.Terms.{Var, Quote, Call, tms};
 ghost use Rattle.term_forms.specs.Translation.{limited, is_limited};
-ghost use Rattle.term_forms.specs.TranslationView.{SaysOutcome};
+ghost use Rattle.term_forms.specs.view.TranslationView.{SaysOutcome};
 
 use crate::limits::{MAX_LEVELS, MAX_NODES};
 use crate::translation::TermError;
@@ -39,7 +39,7 @@ impl Model for Counted {
 
     ghost view = { λ a. a.term };
 
-    ghost use Rattle.term_forms.specs.CountedView.{IsCounted};
+    ghost use Rattle.term_forms.specs.view.CountedView.{IsCounted};
 
     ghost invariant = { IsCounted };
 }

@@ -9,7 +9,7 @@ ghost use Rattle.terms.specs.Measures.{call1, call2, call3};
 ghost use Rattle.term_forms.specs.Macros as spec;
 ghost use Rattle.terms.specs.Terms.{Quote};
 ghost use Rattle.term_forms.specs.Translation.{limited};
-ghost use Rattle.term_forms.specs.TranslationView.{SaysOutcome};
+ghost use Rattle.term_forms.specs.view.TranslationView.{SaysOutcome};
 ghost use Rattle.term_forms.specs.Words.{text_of, of_parts, joined, folded, of_part, of_pair, meaning};
 
 use crate::counted::Counted;

@@ -9,7 +9,7 @@ ghost use Rattle.term_forms.specs.Heads.{IsWord, head_of};
 ghost use Rattle.term_forms.specs.Outcomes.{each};
 ghost use Rattle.term_forms.specs.Translation as spec;
 ghost use Rattle.term_forms.specs.Translation.{and_then, map_outcome, limited};
-ghost use Rattle.term_forms.specs.TranslationView.{allowed, SaysOutcome};
+ghost use Rattle.term_forms.specs.view.TranslationView.{allowed, SaysOutcome};
 
 use crate::bindings::{
     Binding, Variables, check_distinct, read_bindings, replace_at_once, replace_in_turn,

@@ -3,7 +3,7 @@ use Rattle.std.proofs.Common.{◌≡◌, ℕ, zero, suc, ◌+◌, ◌<◌, ◌�
 use native.Mathlib.Numerals.{unary_clauses}
 use Rattle.std.proofs.lemmas.List.{take_all}
 use Rattle.terms.specs.Terms.{Tm, More, count, tms, tm_list, depth, depths, substitute, substitute_all}
-use Rattle.terms.specs.TermFalls.{most_le-depths}
+use Rattle.terms.specs.view.TermFalls.{most_le-depths}
 use Rattle.terms.specs.Substitution.{Pairs, by_pairs}
 
 -- an argument is less deep than the call

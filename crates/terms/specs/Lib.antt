@@ -1,7 +1,8 @@
+-- Names that crates above use.
+pub use Rattle.terms.specs.view.TermView
+pub use Rattle.terms.specs.view.TermFalls
 pub mod Primitives
 pub mod Terms
-pub mod TermView
-pub mod TermFalls
 pub mod Substitution
 pub mod Variables
 pub mod Paths
@@ -17,3 +18,4 @@ pub mod Dependence
 pub mod Later
 pub mod Sound
 pub mod Laws
+pub mod view

@@ -3,7 +3,7 @@
 ghost use Rattle.std.specs.Prelude.{◌≡◌, ◌↔◌, IsTrue, IfOk};
 ghost use Rattle.lisp_data.specs.ValueView.{val_of};
 ghost use Rattle.terms.specs.Terms.{Var, Quote, Call, tms, same_tm, same_tms};
-ghost use Rattle.terms.specs.TermView.{tm_of};
+ghost use Rattle.terms.specs.view.TermView.{tm_of};
 
 use lisp_data::{Memory, Seq, Share, Symbol, Value};
 use std::alloc::Global;
@@ -42,13 +42,13 @@ impl Model for Term {
 
     ghost coded = { tm_code };
 
-    ghost use Rattle.terms.specs.TermView.{tm_of};
+    ghost use Rattle.terms.specs.view.TermView.{tm_of};
 
     ghost view = { λ a. tm_of a.node.value };
 
     ghost size = { depth };
 
-    ghost use Rattle.terms.specs.TermFalls.{parts_below};
+    ghost use Rattle.terms.specs.view.TermFalls.{parts_below};
 
     ghost size_decreases = { λ a h. parts_below a.node.value };
 }

@@ -10,9 +10,9 @@ use Rattle.terms.specs.declared.definition.Definition.{Definition as Def}
 use Rattle.terms.specs.declared.entries.Specification.{Specification as Spec}
 use Rattle.terms.specs.declared.entries.Iso.{Iso as Isomorphism}
 use Rattle.terms.proofs.Names.{same_name}
-use Rattle.worlds.specs.EntryLists.{first, any, grown, empty_world}
+use Rattle.worlds.specs.view.EntryLists.{first, any, grown, empty_world}
 use Rattle.worlds.specs.Entries.{is_named, definition_of, variable_of, theorem_of, specification_of, iso_of}
-use Rattle.worlds.specs.Indexes.{AgreeAt}
+use Rattle.worlds.specs.view.Indexes.{AgreeAt}
 use Rattle.worlds.specs.Lookups.{find_spec, find_iso}
 use Rattle.worlds.specs.Names.{reserved, is_free}
 use Rattle.worlds.specs.Named.{IsNamed, Tells, IsGiven, Gives}

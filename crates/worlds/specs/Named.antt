@@ -10,7 +10,7 @@ use Rattle.terms.specs.declared.sequent.Sequent.{Sequent}
 use Rattle.terms.specs.declared.entries.Specification.{Specification as Spec}
 use Rattle.terms.specs.declared.entries.Iso.{Iso as Isomorphism}
 use Rattle.worlds.specs.Entries.{is_named, definition_of, variable_of, theorem_of, specification_of, iso_of}
-use Rattle.worlds.specs.EntryLists.{first, any}
+use Rattle.worlds.specs.view.EntryLists.{first, any}
 use Rattle.worlds.specs.Lookups.{find_spec, find_iso}
 use Rattle.worlds.specs.declared.entry.Entry.{Entry}
 use Rattle.worlds.specs.declared.named.Named.{Named}

@@ -3,7 +3,7 @@
 ghost use Rattle.std.specs.Prelude.{◌≡◌, [], ◌++◌, IfOk, IfSome};
 ghost use Rattle.std.specs.Option.{option_copied, option_map};
 ghost use Rattle.lisp_data.specs.FormView.{form_of, IsProper};
-ghost use Rattle.worlds.specs.EntryLists.{first, last, any};
+ghost use Rattle.worlds.specs.view.EntryLists.{first, last, any};
 ghost use Rattle.worlds.specs.Entries.{instance_in, link_of, is_event, defthm_of};
 ghost use Rattle.worlds.specs.Named.{Gives};
 
@@ -34,8 +34,8 @@ impl Model for Block {
 
     ghost coded = { coded_list entry.the_row.coded };
 
-    ghost use Rattle.worlds.specs.EntryLists.{grown, empty_world};
-    ghost use Rattle.worlds.specs.Indexes.{Answers};
+    ghost use Rattle.worlds.specs.view.EntryLists.{grown, empty_world};
+    ghost use Rattle.worlds.specs.view.Indexes.{Answers};
 
     ghost view = { λ b. b.entries };
 

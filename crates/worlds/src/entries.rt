@@ -3,7 +3,7 @@
 ghost use Rattle.std.specs.Prelude.{◌≡◌, [], ◌∷◌, ◌++◌, IfOk, IfSome, IfNone};
 ghost use Rattle.std.specs.Option.{option_copied, option_map};
 ghost use Rattle.lisp_data.specs.FormView.{form_of, IsProper};
-ghost use Rattle.worlds.specs.EntryLists.{first, last, any};
+ghost use Rattle.worlds.specs.view.EntryLists.{first, last, any};
 ghost use Rattle.worlds.specs.Entries.{IsProperEntry, instance_in, link_of, is_event, defthm_of};
 ghost use Rattle.worlds.specs.Named.{Gives};
 ghost use Rattle.worlds.specs.declared.entry.Entry.TheVariants.{Function as FunctionEntry, Theorem as TheoremEntry};
@@ -64,7 +64,7 @@ impl Model for Entries {
 
     ghost coded = { coded_list entry.the_row.coded };
 
-    ghost use Rattle.worlds.specs.EntryLists.{entries_of, IsProperNewest};
+    ghost use Rattle.worlds.specs.view.EntryLists.{entries_of, IsProperNewest};
 
     ghost view = { λ es. entries_of es.top };
 

@@ -6,7 +6,7 @@ ghost use Rattle.lisp_data.specs.FormView.{form_of, IsProper};
 ghost use Rattle.terms.specs.Primitives.{primitive, operands, lookup};
 ghost use Rattle.terms.specs.Worlds.{is_in};
 ghost use Rattle.terms.specs.Sound.{initial_world};
-ghost use Rattle.worlds.specs.EntryLists.{grown};
+ghost use Rattle.worlds.specs.view.EntryLists.{grown};
 ghost use Rattle.worlds.specs.Events.{has_event, find_defthm};
 ghost use Rattle.worlds.specs.Lookups.{find_instance};
 ghost use Rattle.worlds.specs.Named.{Tells};
@@ -38,13 +38,13 @@ pub(crate) struct Sealed {
 
 impl Model for Sealed {
     ghost use Rattle.terms.specs.Worlds.{World as WorldData};
-    ghost use Rattle.worlds.specs.Codes.{world_code};
+    ghost use Rattle.worlds.specs.view.Codes.{world_code};
 
     ghost Value = { WorldData };
 
     ghost coded = { world_code };
 
-    ghost use Rattle.worlds.specs.EntryLists.{grown, empty_world};
+    ghost use Rattle.worlds.specs.view.EntryLists.{grown, empty_world};
     ghost use Rattle.worlds.specs.Words.{Knows};
 
     ghost view = { λ s. grown s.newer (grown s.older.value empty_world) };

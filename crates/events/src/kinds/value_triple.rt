@@ -4,7 +4,7 @@ ghost use Rattle.lisp_data.specs.FormView.{form_of, IsProper};
 ghost use Rattle.lisp_data.specs.Datum.{Datum};
 ghost use Rattle.lisp_data.specs.ValueView.{val_of};
 ghost use Rattle.events.specs.ValueTriple as spec;
-ghost use Rattle.events.specs.Halts.{Reads, Says, Handles};
+ghost use Rattle.events.specs.view.Halts.{Reads, Says, Handles};
 
 use crate::halt::Halt;
 use crate::lines::{one_line, value_line};

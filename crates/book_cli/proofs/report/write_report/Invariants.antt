@@ -1,5 +1,5 @@
 use Rattle.std.proofs.Common.{◌≡◌, ◌+◌, ◌≤◌, ◌&&◌, length}
-use Rattle.book_cli.specs.Begun.{IsBegun}
+use Rattle.book_cli.specs.view.Begun.{IsBegun}
 use Rattle.book_cli.specs.Report.{report_from, report_of, world_from, world_made, accepts, accepts_all}
 use Rattle.book_cli.proofs.report.write_report.Given as goal
 use Rattle.lisp_reader.specs.declared.limits.TheConstants.{MAX_FORMS}

@@ -3,7 +3,7 @@ use Rattle.clap.specs.Simple.{Shape, app_of_fields, on_top}
 use Rattle.clap.specs.Words.{app_of, rule_of, with_rule}
 use Rattle.clap.specs.declared.builder.command.Command.{Command}
 use Rattle.clap.specs.declared.builder.command.Command.TheOpen.{Command-F}
-use Rattle.book_cli.specs.CommandMatches.{bare_app, mode_arg, count_arg, continue_arg, show_arg}
+use Rattle.book_cli.specs.view.CommandMatches.{bare_app, mode_arg, count_arg, continue_arg, show_arg}
 use Rattle.book_cli.proofs.words.command.Goals as goal
 
 pub returns : goal.returns

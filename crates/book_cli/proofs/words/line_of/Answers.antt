@@ -3,7 +3,7 @@ use Rattle.std.specs.Prelude.{if◌then◌else◌}
 use Rattle.clap.proofs.WalkLemmas.{first_value-rows, one_text-rows}
 use Rattle.clap.specs.Words.{first_of, found_of, rows_of}
 use Rattle.clap.specs.Values.{bool_text}
-use Rattle.book_cli.specs.CommandMatches.{is_check}
+use Rattle.book_cli.specs.view.CommandMatches.{is_check}
 use Rattle.book_cli.specs.declared.words.ModeLine.{ModeLine}
 use Rattle.book_cli.proofs.words.line_of.Goals as goal
 

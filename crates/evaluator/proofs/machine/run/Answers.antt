@@ -1,7 +1,7 @@
 use Rattle.std.proofs.Common.{List, length, ap, subst, sym, arith, map, None}
 use Rattle.lisp_data.specs.ValueView.{val_of}
 use Rattle.evaluator.specs.Counted.{evaluated, told}
-use Rattle.evaluator.specs.Machines.{waiting, act_of, resumed, Stacked}
+use Rattle.evaluator.specs.view.Machines.{waiting, act_of, resumed, Stacked}
 use Rattle.evaluator.specs.declared.machine.Frame.{Frame}
 use Rattle.evaluator.proofs.machine.run.Goals as goal
 

@@ -1,6 +1,6 @@
 use Rattle.evaluator.specs.Counted.{evaluated}
-use Rattle.evaluator.specs.Machines.{Stands, effort, weight_of}
-use Rattle.evaluator.specs.Callees.{Knows}
+use Rattle.evaluator.specs.view.Machines.{Stands, effort, weight_of}
+use Rattle.evaluator.specs.view.Callees.{Knows}
 use Rattle.evaluator.proofs.machine.run.Given as goal
 
 abbrev pub invariant-loop-next : goal.invariant-loop-next

@@ -1,5 +1,5 @@
 use Rattle.std.proofs.Common.{◌≡◌, length}
-use Rattle.events.specs.Halts.{clauses_seen, joined}
+use Rattle.events.specs.view.Halts.{clauses_seen, joined}
 use Rattle.events.specs.Verdicts as spec
 use Rattle.events.proofs.clauses.read_ways.Given as goal
 

@@ -5,7 +5,7 @@ use Rattle.terms.specs.Worlds.{arity, is_in}
 use Rattle.term_forms.specs.Translation.{Outcome, translate}
 use Rattle.term_forms.specs.TranslationView.{SaysOutcome}
 use Rattle.events.specs.Definitions.{with_own, body_of}
-use Rattle.events.specs.Halts.{IsFromTerm}
+use Rattle.events.specs.view.Halts.{IsFromTerm}
 use Rattle.events.proofs.StepLemmas.{by_error, term_refusal}
 use Rattle.events.proofs.definitions.read_body.Goals as goal
 

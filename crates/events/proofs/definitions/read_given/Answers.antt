@@ -3,7 +3,7 @@ use Rattle.lisp_data.specs.FormView.{form_of}
 use Rattle.terms.specs.Terms.{Tm}
 use Rattle.terms.specs.Worlds.{arity, is_in}
 use Rattle.term_forms.specs.Translation.{Outcome, map_outcome, translate}
-use Rattle.events.specs.Halts.{IsFromTerm}
+use Rattle.events.specs.view.Halts.{IsFromTerm}
 use Rattle.events.proofs.StepLemmas.{by_error, mapped_refusal}
 use Rattle.events.proofs.definitions.read_given.Goals as goal
 

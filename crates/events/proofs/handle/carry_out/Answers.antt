@@ -1,4 +1,4 @@
-use Rattle.events.specs.Halts.{clauses_seen}
+use Rattle.events.specs.view.Halts.{clauses_seen}
 use Rattle.events.proofs.HandleLemmas.{admitted, carried, made_by}
 use Rattle.events.proofs.handle.carry_out.Goals as goal
 

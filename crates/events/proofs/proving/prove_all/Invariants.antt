@@ -1,6 +1,6 @@
 use Rattle.std.proofs.Common.{◌≡◌, List, length}
 use Rattle.kernel.specs.Conclusion.{Conclusion}
-use Rattle.events.specs.Halts.{AreProvedAfter}
+use Rattle.events.specs.view.Halts.{AreProvedAfter}
 use Rattle.events.specs.Verdicts.{all_proved}
 use Rattle.events.proofs.proving.prove_all.Given as goal
 

@@ -2,7 +2,7 @@ use Rattle.std.proofs.Common.{◌≡◌, Ok, sym, subst}
 use Rattle.lisp_data.specs.FormView.{form_of}
 use Rattle.term_forms.specs.Translation.{Outcome}
 use Rattle.event_forms.specs.Shapes.{Event, ValueTriple, event_of}
-use Rattle.events.specs.Halts.{Answers}
+use Rattle.events.specs.view.Halts.{Answers}
 use Rattle.events.proofs.steps.answer.Goals as goal
 
 pub returns-in-ValueTriple : goal.returns-in-ValueTriple

@@ -1,7 +1,7 @@
 use Rattle.std.proofs.Common.{◌≡◌, ◌+◌, ◌*◌, ◌++◌, map, drop}
 use Rattle.terms.specs.Terms.{depth, depths, tms}
 use Rattle.terms.specs.Measures.{first_place, recursive_calls_in}
-use Rattle.measures.specs.Calls.{call_of, place_of}
+use Rattle.measures.specs.view.Calls.{call_of, place_of}
 use Rattle.measures.proofs.calls.+collect.Given as goal
 
 abbrev pub decreases-collect : goal.decreases-collect

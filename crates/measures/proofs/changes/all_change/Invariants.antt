@@ -1,6 +1,6 @@
 use Rattle.std.proofs.Common.{◌≡◌, drop, map}
 use Rattle.std.specs.List.{list_all}
-use Rattle.measures.specs.Calls.{call_of}
+use Rattle.measures.specs.view.Calls.{call_of}
 use Rattle.measures.specs.DefaultMeasure as spec
 use Rattle.measures.proofs.changes.all_change.Given as goal
 

@@ -1,6 +1,6 @@
 use Rattle.std.proofs.Common.{◌≡◌, ◌+◌, ◌*◌, ◌-◌, drop}
 use Rattle.terms.specs.Terms.{depth, depths, tms}
-use Rattle.measures.specs.Calls.{calls_in}
+use Rattle.measures.specs.view.Calls.{calls_in}
 use Rattle.measures.proofs.counts.+counts.Given as goal
 
 abbrev pub decreases-left_of : goal.decreases-left_of

@@ -1,5 +1,5 @@
 use Rattle.std.proofs.Common.{◌≡◌, drop, map}
-use Rattle.measures.specs.Calls.{call_of}
+use Rattle.measures.specs.view.Calls.{call_of}
 use Rattle.measures.specs.DefaultMeasure as spec
 use Rattle.measures.proofs.defaults.first_changed.Given as goal
 

@@ -2,7 +2,7 @@ use Rattle.std.proofs.Common.{[], List, length, map, subst, sym}
 use Rattle.std.specs.Prelude.{All, ◌≡◌}
 use Rattle.terms.specs.Worlds.{Each}
 use Rattle.terms.specs.Measures.{RecursiveCall}
-use Rattle.measures.specs.Calls.{call_of}
+use Rattle.measures.specs.view.Calls.{call_of}
 use Rattle.measures.specs.declared.calls.RecursiveCall.{RecursiveCall as CallInCode}
 use Rattle.measures.proofs.Lengths.{Takes, calls_take, lengths, told_calls}
 use Rattle.measures.proofs.owed.obligations.Goals as goal

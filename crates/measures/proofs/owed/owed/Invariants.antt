@@ -1,6 +1,6 @@
 use Rattle.std.proofs.Common.{◌≡◌, ◌∷◌, map, take}
 use Rattle.terms.specs.Measures as spec
-use Rattle.measures.specs.Calls.{call_of}
+use Rattle.measures.specs.view.Calls.{call_of}
 use Rattle.measures.proofs.owed.owed.Given as goal
 
 abbrev pub invariant-loop-call : goal.invariant-loop-call

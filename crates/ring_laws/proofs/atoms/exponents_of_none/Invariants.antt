@@ -1,5 +1,5 @@
 use Rattle.std.proofs.Common.{◌≡◌, [], take}
-use Rattle.ring_laws.specs.Held.{exponents}
+use Rattle.ring_laws.specs.view.Held.{exponents}
 use Rattle.ring_laws.proofs.atoms.exponents_of_none.Given as goal
 
 abbrev pub invariant-loop-atom : goal.invariant-loop-atom

@@ -1,7 +1,7 @@
 use Rattle.std.proofs.Common.{◌≡◌, ℕ, ◌-◌, min, Bool, true, false, nat_le, List, [], ◌∷◌, ◌++◌, length, take, drop, refl, sym, ap, ap₂, ◌∙◌, append-nil, append_assoc, length-drop, arith}
 use Rattle.std.proofs.lemmas.Bool.{leb-true, leb-false}
 use Rattle.std.proofs.lemmas.List.{take_all, drop_all}
-use Rattle.ring_laws.specs.Held.{together}
+use Rattle.ring_laws.specs.view.Held.{together}
 use Rattle.ring_laws.proofs.atoms.together.Goals as goal
 
 together-none : (xs : List ℕ) → together xs [] ≡ xs

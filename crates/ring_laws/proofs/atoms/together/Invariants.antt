@@ -1,5 +1,5 @@
 use Rattle.std.proofs.Common.{◌≡◌, ◌++◌, drop}
-use Rattle.ring_laws.specs.Held.{together}
+use Rattle.ring_laws.specs.view.Held.{together}
 use Rattle.ring_laws.proofs.atoms.together.Given as goal
 
 abbrev pub invariant-loop-i : goal.invariant-loop-i

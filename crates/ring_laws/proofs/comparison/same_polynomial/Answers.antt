@@ -1,8 +1,8 @@
 use Rattle.std.proofs.Common.{◌≡◌, ◌↔◌, [], IsTrue, Ok, subst, sym, ◌∙◌, arith}
 use Rattle.ring_laws.specs.Expressions.{expression}
 use Rattle.ring_laws.specs.Polynomials.{SamePolynomial}
-use Rattle.ring_laws.specs.Held.{with_atoms}
-use Rattle.ring_laws.specs.Expansions.{SaysExpansion}
+use Rattle.ring_laws.specs.view.Held.{with_atoms}
+use Rattle.ring_laws.specs.view.Expansions.{SaysExpansion}
 use Rattle.ring_laws.proofs.Soundness.{same_decides}
 use Rattle.ring_laws.proofs.Expansions.{compared_terms}
 use Rattle.ring_laws.proofs.comparison.same_polynomial.Goals as goal

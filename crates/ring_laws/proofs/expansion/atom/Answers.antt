@@ -1,5 +1,5 @@
 use Rattle.std.proofs.Common.{[], ◌∷◌, pos, refl}
-use Rattle.ring_laws.specs.Held.{held, exponents}
+use Rattle.ring_laws.specs.view.Held.{held, exponents}
 use Rattle.ring_laws.proofs.Expansions.{says_along, one_entry}
 use Rattle.ring_laws.proofs.expansion.atom.Goals as goal
 

@@ -1,8 +1,8 @@
 use Rattle.std.proofs.Common.{[], ◌∷◌, nat_abs, ap, subst, ◌∙◌}
 use Rattle.std.proofs.lemmas.Int.{to_z-of_z}
 use mir.Syntax.{w128}
-use Rattle.ring_laws.specs.Held.{held, exponents}
-use Rattle.ring_laws.specs.Expansions.{SaysSum}
+use Rattle.ring_laws.specs.view.Held.{held, exponents}
+use Rattle.ring_laws.specs.view.Expansions.{SaysSum}
 use Rattle.ring_laws.proofs.Expansions.{says_along, one_entry}
 use Rattle.ring_laws.proofs.expansion.literal.Goals as goal
 

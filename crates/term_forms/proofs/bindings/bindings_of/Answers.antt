@@ -5,7 +5,7 @@ use Rattle.lisp_data.specs.declared.form.Form.{Form}
 use Rattle.lisp_data.specs.Values.{Name}
 use Rattle.term_forms.specs.Bindings.{names_of}
 use Rattle.term_forms.specs.Translation.{bound_name, bound_names}
-use Rattle.term_forms.specs.TranslationView.{SaysOutcome}
+use Rattle.term_forms.specs.view.TranslationView.{SaysOutcome}
 use Rattle.term_forms.proofs.Each.{each-refused}
 use Rattle.term_forms.proofs.Bound.{list-refused}
 use Rattle.term_forms.proofs.bindings.bindings_of.Goals as goal

@@ -3,7 +3,7 @@ use Rattle.lisp_data.specs.Values.{Name}
 use Rattle.terms.specs.Terms.{Tm}
 use Rattle.terms.specs.Substitution.{Pairs}
 use Rattle.term_forms.specs.Translation.{limited}
-use Rattle.term_forms.specs.TranslationView.{SaysOutcome}
+use Rattle.term_forms.specs.view.TranslationView.{SaysOutcome}
 use Rattle.term_forms.specs.Words.{folded}
 use Rattle.term_forms.specs.Bindings.{replaced_by}
 use Rattle.term_forms.proofs.InTurn.{step-refused, step-taken}

@@ -3,7 +3,7 @@ use Rattle.lisp_data.specs.FormView.{form_of}
 use Rattle.term_forms.specs.Bindings.{stands}
 use Rattle.term_forms.specs.Heads.{IsWord}
 use Rattle.terms.specs.Terms.{Tm}
-use Rattle.term_forms.specs.TranslationView.{SaysOutcome}
+use Rattle.term_forms.specs.view.TranslationView.{SaysOutcome}
 use Rattle.term_forms.proofs.Translated.{lists, behind, head-taken, macro-taken, macro-refused, call-taken, so_many, let-behind, in_turn-behind}
 use Rattle.term_forms.specs.Bindings.{replaced_by, SaysBindings}
 use Rattle.term_forms.specs.Heads.{head_of}

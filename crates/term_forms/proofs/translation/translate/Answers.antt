@@ -2,7 +2,7 @@ use Rattle.std.proofs.Common.{arith, Err, Ok, subst}
 use Rattle.lisp_data.specs.FormView.{form_of}
 use Rattle.terms.specs.Terms.{Tm}
 use Rattle.term_forms.specs.Translation.{Scope, translate}
-use Rattle.term_forms.specs.TranslationView.{allowed, SaysOutcome}
+use Rattle.term_forms.specs.view.TranslationView.{allowed, SaysOutcome}
 use Rattle.term_forms.proofs.translation.translate.Goals as goal
 
 pub returns-in_err-counted : goal.returns-in_err-counted

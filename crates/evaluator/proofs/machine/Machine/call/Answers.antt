@@ -1,7 +1,7 @@
 use Rattle.std.proofs.Common.{map, drop, refl, ap, sym, subst, ◌∙◌, Some, arith}
 use Rattle.evaluator.specs.Counted.{Stops, IsVariable, answered}
-use Rattle.evaluator.specs.Table.{performs}
-use Rattle.evaluator.specs.Machines.{vals, waiting, whole, act_of, refusal, StopsWith}
+use Rattle.evaluator.specs.view.Table.{performs}
+use Rattle.evaluator.specs.view.Machines.{vals, waiting, whole, act_of, refusal, StopsWith}
 use Rattle.evaluator.specs.declared.machine.Control.TheVariants.{Give}
 use Rattle.evaluator.proofs.Steps.{stops_on, stacked_more, found_light}
 use Rattle.evaluator.proofs.Calls.{performs_call, variable_call, defined_call}

@@ -3,7 +3,7 @@ use Rattle.std.proofs.lemmas.List.{take_all, length-map}
 use Rattle.lisp_data.specs.ValueView.{val_of}
 use Rattle.terms.specs.Terms.{tms}
 use Rattle.evaluator.specs.Counted.{Stuck, taken, steps}
-use Rattle.evaluator.specs.Machines.{vals, waiting, act_of, env_of, Either}
+use Rattle.evaluator.specs.view.Machines.{vals, waiting, act_of, env_of, Either}
 use Rattle.evaluator.proofs.Steps.{stops_on, stacked_more}
 use Rattle.evaluator.proofs.Turns.{chooses, three, not_three, steps_of}
 use Rattle.evaluator.proofs.machine.Machine.choose.Goals as goal

@@ -1,6 +1,6 @@
 use Rattle.std.proofs.Common.{◌≡◌, map, drop, length, Some, refl, ap, arith}
 use Rattle.evaluator.specs.Counted.{ManyCalls, Stuck, entered, body_run}
-use Rattle.evaluator.specs.Machines.{vals, waiting, act_of}
+use Rattle.evaluator.specs.view.Machines.{vals, waiting, act_of}
 use Rattle.evaluator.proofs.Steps.{stops_on}
 use Rattle.evaluator.proofs.Calls.{no_calls, other_count}
 use Rattle.evaluator.proofs.Turns.{vals_left, enters}

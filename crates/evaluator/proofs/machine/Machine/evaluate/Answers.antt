@@ -5,7 +5,7 @@ use Rattle.terms.specs.Terms.{Var, Call, tms}
 use Rattle.terms.specs.TermView.{tm_of}
 use Rattle.terms.specs.Evaluation.{bind}
 use Rattle.evaluator.specs.Counted.{found_in, counted, gathered, taken, steps}
-use Rattle.evaluator.specs.Machines.{vals, waiting, whole, act_of, env_of, effort, weight, weights, refusal, StopsWith}
+use Rattle.evaluator.specs.view.Machines.{vals, waiting, whole, act_of, env_of, effort, weight, weights, refusal, StopsWith}
 use Rattle.evaluator.specs.declared.machine.Control.TheVariants.{Give}
 use Rattle.evaluator.proofs.Steps.{stops_on}
 use Rattle.evaluator.proofs.Turns.{goes_on, goes_as, slice_vals, not_found}

@@ -1,5 +1,5 @@
 use Rattle.std.proofs.Common.{refl, ap, sym, ◌∙◌, subst, drop, length, ◌≤◌, arith}
-use Rattle.evaluator.specs.Machines.{vals, Stacked}
+use Rattle.evaluator.specs.view.Machines.{vals, Stacked}
 use Rattle.evaluator.proofs.Steps.{stacked_top}
 use Rattle.evaluator.proofs.Turns.{kept_below, kept_from, kept_length}
 use Rattle.evaluator.proofs.machine.Machine.lower.Goals as goal

@@ -2,7 +2,7 @@ use Rattle.std.proofs.Common.{◌-◌, take, drop, length, ◌∷◌, refl, ap, 
 use Rattle.std.proofs.lemmas.List.{take_all, length-map, drop_more, take_rest}
 use Rattle.lisp_data.specs.ValueView.{val_of}
 use Rattle.terms.specs.Terms.{tms}
-use Rattle.evaluator.specs.Machines.{vals, env_of, Rest}
+use Rattle.evaluator.specs.view.Machines.{vals, env_of, Rest}
 use Rattle.evaluator.proofs.Turns.{proceeds}
 use Rattle.evaluator.proofs.machine.Machine.proceed.Goals as goal
 

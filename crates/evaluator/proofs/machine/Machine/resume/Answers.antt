@@ -3,7 +3,7 @@ use Rattle.std.proofs.lemmas.List.{length-map, map-append, take-map, length-take
 use Rattle.lisp_data.specs.ValueView.{val_of}
 use Rattle.terms.specs.Primitives.{is_nil}
 use Rattle.evaluator.specs.Counted.{counted}
-use Rattle.evaluator.specs.Machines.{vals, waiting, act_of, env_of, weight, height, base, load, continue, Inside, Stacked}
+use Rattle.evaluator.specs.view.Machines.{vals, waiting, act_of, env_of, weight, height, base, load, continue, Inside, Stacked}
 use Rattle.evaluator.specs.declared.machine.Frame.{Frame}
 use Rattle.evaluator.specs.declared.machine.Frame.TheVariants.{Branches}
 use Rattle.evaluator.proofs.Steps.{stacked_more, base_le}

@@ -1,7 +1,7 @@
 use Rattle.std.proofs.Common.{List, length, Ok, Err, refl, subst, ap, ◌∙◌, arith, map}
 use Rattle.lisp_data.specs.ValueView.{val_of}
 use Rattle.evaluator.specs.Counted.{Gives}
-use Rattle.evaluator.specs.Machines.{vals, waiting, whole, act_of, now, resumed, weight_of, Stacked}
+use Rattle.evaluator.specs.view.Machines.{vals, waiting, whole, act_of, now, resumed, weight_of, Stacked}
 use Rattle.evaluator.specs.declared.machine.Frame.{Frame}
 use Rattle.evaluator.proofs.Steps.{stacked_pop}
 use Rattle.evaluator.proofs.Turns.{turned, no_frames}

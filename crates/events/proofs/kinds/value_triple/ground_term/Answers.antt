@@ -6,7 +6,7 @@ use Rattle.terms.specs.Worlds.{arity, is_in}
 use Rattle.term_forms.specs.Translation.{Outcome, translate}
 use Rattle.term_forms.specs.TranslationView.{SaysOutcome}
 use Rattle.events.specs.ValueTriple.{ground_term}
-use Rattle.events.specs.Halts.{IsFromTerm}
+use Rattle.events.specs.view.Halts.{IsFromTerm}
 use Rattle.events.proofs.StepLemmas.{by_error, first_refusal}
 use Rattle.events.proofs.kinds.value_triple.ground_term.Goals as goal
 

@@ -1,5 +1,5 @@
 use Rattle.ring_laws.specs.FormalSums.{negated}
-use Rattle.ring_laws.specs.Held.{held}
+use Rattle.ring_laws.specs.view.Held.{held}
 use Rattle.ring_laws.proofs.Expansions.{says_along}
 use Rattle.ring_laws.proofs.expansion.Expansion.negated.Goals as goal
 

@@ -1,6 +1,6 @@
 use Rattle.std.proofs.Common.{◌++◌, subst}
-use Rattle.ring_laws.specs.Held.{held}
-use Rattle.ring_laws.specs.Expansions.{SaysSum}
+use Rattle.ring_laws.specs.view.Held.{held}
+use Rattle.ring_laws.specs.view.Expansions.{SaysSum}
 use Rattle.ring_laws.proofs.Expansions.{says_along}
 use Rattle.ring_laws.proofs.expansion.Expansion.plus.Goals as goal
 

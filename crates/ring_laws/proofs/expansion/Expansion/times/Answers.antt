@@ -1,7 +1,7 @@
 use Rattle.std.proofs.Common.{subst}
 use Rattle.ring_laws.specs.FormalSums.{products}
-use Rattle.ring_laws.specs.Held.{held, together}
-use Rattle.ring_laws.specs.Expansions.{SaysSum}
+use Rattle.ring_laws.specs.view.Held.{held, together}
+use Rattle.ring_laws.specs.view.Expansions.{SaysSum}
 use Rattle.ring_laws.proofs.Expansions.{says_along}
 use Rattle.ring_laws.proofs.expansion.Expansion.times.Goals as goal
 

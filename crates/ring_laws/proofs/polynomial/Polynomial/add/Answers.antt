@@ -2,7 +2,7 @@ use Rattle.std.proofs.Common.{◌∷◌, ◌+ℤ◌, subst, sym, ap, ap₂, ◌�
 use Rattle.std.proofs.lemmas.Int.{to_z-of_z}
 use mir.Syntax.{w128}
 use mir.Val.{SFits}
-use Rattle.ring_laws.specs.Held.{held, SameSum}
+use Rattle.ring_laws.specs.view.Held.{held, SameSum}
 use Rattle.ring_laws.proofs.Maps.{added}
 use Rattle.ring_laws.proofs.polynomial.Polynomial.add.Goals as goal
 

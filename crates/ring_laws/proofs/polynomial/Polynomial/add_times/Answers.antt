@@ -3,7 +3,7 @@ use Rattle.std.proofs.lemmas.Int.{to_z-of_z}
 use mir.Syntax.{w128}
 use mir.Val.{SFits}
 use Rattle.ring_laws.specs.FormalSums.{times_each}
-use Rattle.ring_laws.specs.Held.{held, together, SameSum}
+use Rattle.ring_laws.specs.view.Held.{held, together, SameSum}
 use Rattle.ring_laws.proofs.Maps.{times_over}
 use Rattle.ring_laws.proofs.polynomial.Polynomial.add_times.Goals as goal
 

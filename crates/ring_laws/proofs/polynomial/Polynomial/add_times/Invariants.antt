@@ -1,6 +1,6 @@
 use Rattle.std.proofs.Common.{◌++◌}
 use Rattle.ring_laws.specs.FormalSums.{times_each}
-use Rattle.ring_laws.specs.Held.{held, together, SameSum}
+use Rattle.ring_laws.specs.view.Held.{held, together, SameSum}
 use Rattle.ring_laws.proofs.polynomial.Polynomial.add_times.Given as goal
 
 abbrev pub invariant-loop-others : goal.invariant-loop-others

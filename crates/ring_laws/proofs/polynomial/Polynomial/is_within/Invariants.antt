@@ -2,7 +2,7 @@ use Rattle.std.proofs.Common.{◌≡◌, bytes_eq}
 use Rattle.std.specs.List.{list_all}
 use Rattle.std.specs.Ordering.{int_eq}
 use Rattle.ring_laws.specs.FormalSums.{coefficient}
-use Rattle.ring_laws.specs.Held.{held}
+use Rattle.ring_laws.specs.view.Held.{held}
 use Rattle.ring_laws.proofs.polynomial.Polynomial.is_within.Given as goal
 
 abbrev pub invariant-loop-exponents : goal.invariant-loop-exponents

@@ -1,6 +1,6 @@
 use Rattle.std.proofs.Common.{[], ◌++◌, negsuc, subst}
 use Rattle.ring_laws.specs.FormalSums.{times_each}
-use Rattle.ring_laws.specs.Held.{held, together, SameSum}
+use Rattle.ring_laws.specs.view.Held.{held, together, SameSum}
 use Rattle.ring_laws.proofs.Maps.{by_minus_one}
 use Rattle.ring_laws.proofs.polynomial.Polynomial.negated.Goals as goal
 

@@ -1,7 +1,7 @@
 use Rattle.std.proofs.Common.{ℤ, ℕ, List, ◌++◌, Result, Ok, Err, IfOk}
 use Rattle.lists.specs.declared.memory.Memory.{Memory}
 use Rattle.ring_laws.specs.declared.polynomial.Polynomial.{Polynomial}
-use Rattle.ring_laws.specs.Held.{held, SameSum}
+use Rattle.ring_laws.specs.view.Held.{held, SameSum}
 use Rattle.ring_laws.proofs.Maps.{sum_turned}
 use Rattle.ring_laws.proofs.polynomial.Polynomial.plus.Goals as goal
 

@@ -1,6 +1,6 @@
 use Rattle.std.proofs.Common.{◌++◌, subst}
 use Rattle.ring_laws.specs.FormalSums.{times_each, products}
-use Rattle.ring_laws.specs.Held.{held, together, SameSum}
+use Rattle.ring_laws.specs.view.Held.{held, together, SameSum}
 use Rattle.ring_laws.proofs.Maps.{part_over}
 use Rattle.ring_laws.proofs.polynomial.Polynomial.times.Goals as goal
 

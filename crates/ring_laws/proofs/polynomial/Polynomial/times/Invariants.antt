@@ -1,6 +1,6 @@
 use Rattle.std.proofs.Common.{◌++◌}
 use Rattle.ring_laws.specs.FormalSums.{products}
-use Rattle.ring_laws.specs.Held.{held, together, SameSum}
+use Rattle.ring_laws.specs.view.Held.{held, together, SameSum}
 use Rattle.ring_laws.proofs.polynomial.Polynomial.times.Given as goal
 
 abbrev pub invariant-loop-exponents : goal.invariant-loop-exponents

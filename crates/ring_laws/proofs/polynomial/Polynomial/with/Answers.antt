@@ -1,5 +1,5 @@
 use Rattle.std.proofs.Common.{◌++◌, subst}
-use Rattle.ring_laws.specs.Held.{held, SameSum}
+use Rattle.ring_laws.specs.view.Held.{held, SameSum}
 use Rattle.ring_laws.proofs.Maps.{by_one}
 use Rattle.ring_laws.proofs.polynomial.Polynomial.with.Goals as goal
 

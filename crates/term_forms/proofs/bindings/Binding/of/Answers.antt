@@ -2,7 +2,7 @@ use Rattle.std.proofs.Common.{arith, Err}
 use Rattle.lisp_data.specs.FormView.{form_of}
 use Rattle.lisp_data.specs.Values.{Name}
 use Rattle.term_forms.specs.Translation.{bound_name}
-use Rattle.term_forms.specs.TranslationView.{SaysOutcome}
+use Rattle.term_forms.specs.view.TranslationView.{SaysOutcome}
 use Rattle.term_forms.proofs.Bound.{bound-refused, bound-taken, binding-taken}
 use Rattle.term_forms.proofs.bindings.Binding.of.Goals as goal
 

@@ -1,4 +1,4 @@
-use Rattle.term_forms.specs.TranslationView.{allowed}
+use Rattle.term_forms.specs.view.TranslationView.{allowed}
 use Rattle.term_forms.proofs.Scopes.{with_more}
 use Rattle.term_forms.proofs.bindings.Variables.push.Goals as goal
 

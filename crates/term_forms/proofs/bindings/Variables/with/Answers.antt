@@ -1,6 +1,6 @@
 use Rattle.std.proofs.Common.{◌≡◌, ◌++◌, arith}
 use Rattle.std.proofs.lemmas.List.{take_all}
-use Rattle.term_forms.specs.TranslationView.{allowed}
+use Rattle.term_forms.specs.view.TranslationView.{allowed}
 use Rattle.term_forms.specs.Bindings.{names_of}
 use Rattle.term_forms.proofs.Scopes.{with_more}
 use Rattle.term_forms.proofs.bindings.Variables.with.Goals as goal

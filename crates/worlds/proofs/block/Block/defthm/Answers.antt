@@ -1,6 +1,6 @@
 use Rattle.std.proofs.Common.{◌∙◌, ap}
 use Rattle.worlds.specs.Entries.{defthm_of}
-use Rattle.worlds.specs.EntryLists.{last}
+use Rattle.worlds.specs.view.EntryLists.{last}
 use Rattle.worlds.proofs.Lookups.{defthm-alone}
 use Rattle.worlds.proofs.block.Block.defthm.Goals as goal
 

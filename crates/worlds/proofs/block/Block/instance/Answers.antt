@@ -1,6 +1,6 @@
 use Rattle.std.proofs.Common.{◌∙◌, ap}
 use Rattle.worlds.specs.Entries.{instance_in}
-use Rattle.worlds.specs.EntryLists.{last}
+use Rattle.worlds.specs.view.EntryLists.{last}
 use Rattle.worlds.proofs.Lookups.{instance-alone}
 use Rattle.worlds.proofs.block.Block.instance.Goals as goal
 

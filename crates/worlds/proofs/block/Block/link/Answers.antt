@@ -1,6 +1,6 @@
 use Rattle.std.proofs.Common.{◌∙◌, ap}
 use Rattle.worlds.specs.Entries.{link_of}
-use Rattle.worlds.specs.EntryLists.{first}
+use Rattle.worlds.specs.view.EntryLists.{first}
 use Rattle.worlds.proofs.Lookups.{link-alone}
 use Rattle.worlds.proofs.block.Block.link.Goals as goal
 

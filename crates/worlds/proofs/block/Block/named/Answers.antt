@@ -1,5 +1,5 @@
 use Rattle.std.proofs.Common.{subst}
-use Rattle.worlds.specs.Indexes.{bucket_at}
+use Rattle.worlds.specs.view.Indexes.{bucket_at}
 use Rattle.worlds.specs.Named.{Gives}
 use Rattle.worlds.proofs.Meanings.{gives-all}
 use Rattle.worlds.proofs.block.Block.named.Goals as goal

@@ -1,6 +1,6 @@
 use Rattle.std.proofs.Common.{◌≡◌, ◌∙◌, ap, subst, sym}
-use Rattle.worlds.specs.EntryLists.{grown, empty_world}
-use Rattle.worlds.specs.Indexes.{Answers}
+use Rattle.worlds.specs.view.EntryLists.{grown, empty_world}
+use Rattle.worlds.specs.view.Indexes.{Answers}
 use Rattle.worlds.proofs.Buckets.{copied}
 use Rattle.worlds.proofs.Lookups.{grown-append}
 use Rattle.worlds.proofs.block.Block.with.Goals as goal

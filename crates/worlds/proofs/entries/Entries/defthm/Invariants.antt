@@ -1,7 +1,7 @@
 use Rattle.std.proofs.Common.{◌≡◌, IfSome}
 use Rattle.std.specs.Option.{option_map, option_copied, option_or}
 use Rattle.lisp_data.specs.FormView.{form_of, IsProper}
-use Rattle.worlds.specs.EntryLists.{last}
+use Rattle.worlds.specs.view.EntryLists.{last}
 use Rattle.worlds.specs.Entries.{defthm_of}
 use Rattle.worlds.proofs.entries.Entries.defthm.Given as goal
 

@@ -1,6 +1,6 @@
 use Rattle.std.proofs.Common.{◌≡◌}
 use Rattle.lisp_data.specs.FormView.{form_of}
-use Rattle.worlds.specs.EntryLists.{any}
+use Rattle.worlds.specs.view.EntryLists.{any}
 use Rattle.worlds.specs.Entries.{is_event}
 use Rattle.worlds.proofs.entries.Entries.has_event.Given as goal
 

@@ -1,6 +1,6 @@
 use Rattle.std.proofs.Common.{◌≡◌}
 use Rattle.std.specs.Option.{option_copied, option_or}
-use Rattle.worlds.specs.EntryLists.{last}
+use Rattle.worlds.specs.view.EntryLists.{last}
 use Rattle.worlds.specs.Entries.{instance_in}
 use Rattle.worlds.proofs.entries.Entries.instance.Given as goal
 

@@ -1,5 +1,5 @@
 use Rattle.std.proofs.Common.{◌≡◌}
-use Rattle.worlds.specs.EntryLists.{first}
+use Rattle.worlds.specs.view.EntryLists.{first}
 use Rattle.worlds.specs.Entries.{link_of}
 use Rattle.worlds.proofs.entries.Entries.link.Given as goal
 

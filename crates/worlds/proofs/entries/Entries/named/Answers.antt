@@ -1,6 +1,6 @@
 use Rattle.std.proofs.Common.{None, ap, sym, ◌∙◌}
 use Rattle.worlds.specs.Entries.{is_named}
-use Rattle.worlds.specs.EntryLists.{any, entries_of}
+use Rattle.worlds.specs.view.EntryLists.{any, entries_of}
 use Rattle.worlds.proofs.entries.Entries.named.Goals as goal
 
 pub returns : goal.returns

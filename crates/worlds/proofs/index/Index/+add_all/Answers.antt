@@ -1,6 +1,6 @@
 use Rattle.std.proofs.Common.{subst, sym}
-use Rattle.worlds.specs.EntryLists.{grown}
-use Rattle.worlds.specs.Indexes.{Answers}
+use Rattle.worlds.specs.view.EntryLists.{grown}
+use Rattle.worlds.specs.view.Indexes.{Answers}
 use Rattle.worlds.proofs.Buckets.{added}
 use Rattle.worlds.proofs.index.Index.+add_all.Goals as goal
 

@@ -1,7 +1,7 @@
 use Rattle.std.proofs.Common.{◌∙◌, ◌++◌, map, ap}
 use Rattle.terms.specs.BuiltIn.{initial_definitions}
 use Rattle.terms.specs.InitialTheorems.{initial_theorems}
-use Rattle.worlds.specs.EntryLists.{grown, empty_world}
+use Rattle.worlds.specs.view.EntryLists.{grown, empty_world}
 use Rattle.worlds.specs.declared.entry.Entry.TheVariants.{Function, Theorem}
 use Rattle.worlds.proofs.Lookups.{grown-begun, grown-defined}
 use Rattle.worlds.proofs.sealed.Sealed.initial.Goals as goal

@@ -1,5 +1,5 @@
 use Rattle.std.proofs.Common.{subst, Some}
-use Rattle.worlds.specs.EntryLists.{grown, empty_world}
+use Rattle.worlds.specs.view.EntryLists.{grown, empty_world}
 use Rattle.worlds.specs.Named.{Gives, Tells}
 use Rattle.worlds.proofs.Meanings.{tells-newer, tells-older, tells-alone}
 use Rattle.worlds.proofs.sealed.Sealed.named.Goals as goal

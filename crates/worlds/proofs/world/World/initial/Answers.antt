@@ -1,6 +1,6 @@
 use Rattle.std.proofs.Common.{ap, subst, sym, ◌∙◌}
 use Rattle.worlds.specs.Entries.{IsWorld}
-use Rattle.worlds.specs.EntryLists.{grown}
+use Rattle.worlds.specs.view.EntryLists.{grown}
 use Rattle.worlds.proofs.Growth.{begun}
 use Rattle.worlds.proofs.world.World.initial.Goals as goal
 

@@ -8,7 +8,7 @@ use Rattle.ring_laws.specs.Expressions.{Expression}
 use Rattle.ring_laws.specs.FormalSums.{support}
 use Rattle.ring_laws.specs.Polynomials.{monomials, norm}
 use Rattle.ring_laws.specs.Limits.{excess, first_excess}
-use Rattle.ring_laws.specs.Held.{held, by_exponents, SameSum}
+use Rattle.ring_laws.specs.view.Held.{held, by_exponents, SameSum}
 
 abbrev pub excess_at : ℕ → List (List ℕ × ℤ) → Option RingError
 excess_at n es = excess n (length (support bytes_eq es))

@@ -4,7 +4,7 @@ use Rattle.lisp_data.specs.Values.{Name}
 use Rattle.terms.specs.Primitives.{primitive}
 use Rattle.terms.specs.declared.definition.Definition.{Definition}
 use Rattle.terms.specs.Definitions.{find}
-use Rattle.evaluator.specs.Table.{IsPrimitive}
+use Rattle.evaluator.specs.view.Table.{IsPrimitive}
 use Rattle.evaluator.specs.declared.callees.Callee.{Callee}
 use Rattle.evaluator.specs.declared.callees.Callee.TheVariants.{Primitive, Defined, Variable}
 use Rattle.evaluator.specs.declared.callees.Known.{Known}

@@ -3,7 +3,7 @@ use Rattle.std.specs.Prelude.{◌+◌, ◌≤◌, max, List, [], ◌∷◌}
 use Rattle.std.proofs.Common.{arith}
 use denote.Param.Weighed.{most}
 use Rattle.terms.specs.Terms.{Tm, depth, depths, tms}
-use Rattle.terms.specs.TermView.{tm_of}
+use Rattle.terms.specs.view.TermView.{tm_of}
 use Rattle.terms.specs.declared.term.Node.{Node}
 use Rattle.terms.specs.declared.term.Node.TheVariants.{Var, Quote, Call}
 use Rattle.terms.specs.declared.term.Term.TheDeep.{deep-Node}

@@ -1,0 +1,4 @@
+pub mod Answers
+pub mod Callees
+pub mod Machines
+pub mod Table

@@ -1,0 +1,3 @@
+pub mod CountedView
+pub mod ClauseCode
+pub mod TranslationView

@@ -1,0 +1,2 @@
+pub mod TermView
+pub mod TermFalls
