@@ -1,4 +1,3 @@
-pub mod Answers
 pub mod Callees
 pub mod Machines
 pub mod Table
