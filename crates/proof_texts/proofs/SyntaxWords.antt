@@ -1,10 +1,10 @@
 -- In a world that a book makes no word of the syntax of terms is a function.
-use Rattle.std.proofs.Common.{◌≡◌, Bool, true, false, ◌||◌, ◌++◌, bytes_eq, codes, Option, Some, None, is_some, if◌then◌else◌, refl, sym, subst}
+use Rattle.std.proofs.Common.{◌≡◌, Bool, true, false, ◌||◌, ◌++◌, bytes_eq, codes, Option, is_some, if◌then◌else◌, refl, sym, subst}
 use Rattle.lisp_data.specs.Values.{Name}
 use Rattle.term_forms.specs.Macros.{Macro, macro}
-use Rattle.term_forms.specs.TranslationLaws.{is_word, WordsApart}
+use Rattle.term_forms.specs.TranslationLaws.{is_word}
 use Rattle.terms.proofs.Names.{same_name}
-use Rattle.terms.specs.Worlds.{World, is_in, arity}
+use Rattle.terms.specs.Worlds.{World, is_in}
 use Rattle.worlds.specs.Names.{macros, binders, WordsAreNoFunctions}
 use Rattle.proof_texts.specs.Laws.{ProofsAreReadAgainIn}
 use Rattle.proof_texts.proofs.AgainLemmas.{proofs_again}
