@@ -250,6 +250,7 @@ module _ (W V : World) (sound : Sound V) (later : IsLater W V) where
   eval_later a t =
       if_later (can_evaluate F a) (can_evaluate G a) _ _ t (and_later (fits F a) (is_ground a) (fits G a) (is_ground a) (fits_later a) (λ e. e))
       (map_later _ (value_of (evaluated F.defs a)) (value_of (evaluated G.defs a)) t (value_later a))
+
   falls_later : (m : Tm) (c : InductionCase) (q : Sequent) → falls_in F m c q ≡ true → falls_in G m c q ≡ true
   falls_later m c q =
       let h = list_all (same_tm c.test) q.hyps in
