@@ -49,7 +49,7 @@ module _ (law : CountedLaw) (W : World) where
   true_by_shape form v (Err e) h = absurd (cc)
   true_by_shape form v (Ok InPackage) h = absurd (silent W form (frame_of InPackage) refl v h)
   true_by_shape form v (Ok (IncludeBook book)) h = absurd (silent W form (frame_of (IncludeBook book)) refl v h)
-  true_by_shape form v (Ok (Defun f formals body)) h = absurd (silent W form (frame_of (Defun f formals body)) refl v h)
+  true_by_shape form v (Ok (Defun function)) h = absurd (silent W form (frame_of (Defun function)) refl v h)
   true_by_shape form v (Ok (Defthm n formula proof)) h = absurd (silent W form (frame_of (Defthm n formula proof)) refl v h)
   true_by_shape form v (Ok (ValueTriple part)) h = (part, refl, model_value part v h)
 
