@@ -40,47 +40,49 @@ fn has_the_proof_of_a_theorem(rt: HostRuntime) -> Result<(), Fail> {
     }
 }
 
-#[test]
-fn prints_values_up_to_function_variables(rt: HostRuntime) -> Result<(), Fail> {
-    let alloc = rt.alloc();
-    let name = Symbol::new(alloc, "?f")?;
-    let Ok(world) = World::initial(alloc)?.with_variable(alloc, name, 1) else {
-        return Err(Fail::from("no variable"));
-    };
-    // A call of a function variable is reached once its arguments have values.
-    for (book, code, text) in [
-        (
-            "(value-triple (cons 1 (?f 2)))",
-            25,
-            "refused 1 25 HasFunctionVariables ?F at 0\n",
-        ),
-        (
-            "(value-triple (?f (* 170141183460469231731687303715884105727 2)))",
-            36,
-            "refused 1 36 EvalTooWide at 0\n",
-        ),
-        (
-            "(value-triple (?f))",
-            18,
-            "refused 1 18 WrongArity ?F at 0\n",
-        ),
-        (
-            "(value-triple (if t '(a . b) (?f 2)))",
-            0,
-            "value (A . B)\n",
-        ),
-    ] {
-        match first_in(alloc, &world, book)? {
-            StepAnswer::Printed(lines) => {
-                assert_eq!(rt; 0, code);
-                assert_line(&rt, &lines, text);
-            }
-            StepAnswer::Refused(number, lines) => {
-                assert_eq!(rt; number, code);
-                assert_line(&rt, &lines, text);
-            }
-            _ => assert!(rt; false),
+/// The first event of the book prints this line, or is refused with it.
+fn assert_answer(
+    rt: &impl Abort,
+    alloc: Global,
+    world: &World,
+    book: &str,
+    text: &str,
+) -> Result<(), Fail> {
+    match first_in(alloc, world, book)? {
+        StepAnswer::Printed(lines) | StepAnswer::Refused(_, lines) => {
+            assert_line(rt, &lines, text);
         }
+        _ => assert!(rt; false),
     }
     Ok(())
+}
+
+/// The initial world with a function variable of one argument.
+fn with_variable(alloc: Global) -> Result<World, Fail> {
+    let name = Symbol::new(alloc, "?f")?;
+    match World::initial(alloc)?.with_variable(alloc, name, 1) {
+        Ok(world) => Ok(world),
+        Err(_) => Err(Fail::from("no variable")),
+    }
+}
+
+#[test]
+fn reaches_function_variables(rt: HostRuntime) -> Result<(), Fail> {
+    let alloc = rt.alloc();
+    let world = with_variable(alloc)?;
+    let book = "(value-triple (cons 1 (?f 2)))";
+    let line = "refused 1 25 HasFunctionVariables ?F at 0\n";
+    assert_answer(&rt, alloc, &world, book, line)?;
+    let book = "(value-triple (?f (* 170141183460469231731687303715884105727 2)))";
+    assert_answer(&rt, alloc, &world, book, "refused 1 36 EvalTooWide at 0\n")
+}
+
+#[test]
+fn passes_by_function_variables(rt: HostRuntime) -> Result<(), Fail> {
+    let alloc = rt.alloc();
+    let world = with_variable(alloc)?;
+    let line = "refused 1 18 WrongArity ?F at 0\n";
+    assert_answer(&rt, alloc, &world, "(value-triple (?f))", line)?;
+    let book = "(value-triple (if t '(a . b) (?f 2)))";
+    assert_answer(&rt, alloc, &world, book, "value (A . B)\n")
 }
