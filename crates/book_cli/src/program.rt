@@ -66,6 +66,25 @@ pub fn run<B: Source, L: Source, K: Sink, P: Sink>(
     }
 }
 
+/// The report of the bytes of a book, which goes on past them or not.
+fn report_bytes<K: Sink>(
+    alloc: Global,
+    bytes: &[u8],
+    more: bool,
+    continues: bool,
+    out: &mut K,
+) -> Status
+    ensures accepted { result ≡ Status.Accepted → IsReported continues (K.held out.old) (K.held out.new) (parse more bytes.now) true }
+    ensures refused { result ≡ Status.Refused → IsReported continues (K.held out.old) (K.held out.new) (parse more bytes.now) false }
+    ensures cut { IsTrue (is_cut result) → GrowsByFront (K.held out.old) (K.held out.new) (report_of continues (parse more bytes.now)) }
+    ensures others { IsReportStatus result }
+    ensures cause { result ≡ Status.WriteFault → Rose (K.faults out.old) (K.faults out.new) }
+    ensures later { K.faults out.old ≤ K.faults out.new }
+{
+    let mut reader = FormReader::new(bytes, more);
+    status_of(write_report(alloc, &mut reader, continues, out))
+}
+
 /// Reads a book, checks its events and writes the report, which goes on after a refused event or ends with it.
 fn check_book<B: Source, K: Sink>(
     alloc: Global,
@@ -92,23 +111,4 @@ fn check_book<B: Source, K: Sink>(
             ReadAllError::Memory => Status::Memory,
         },
     }
-}
-
-/// The report of the bytes of a book, which goes on past them or not.
-fn report_bytes<K: Sink>(
-    alloc: Global,
-    bytes: &[u8],
-    more: bool,
-    continues: bool,
-    out: &mut K,
-) -> Status
-    ensures accepted { result ≡ Status.Accepted → IsReported continues (K.held out.old) (K.held out.new) (parse more bytes.now) true }
-    ensures refused { result ≡ Status.Refused → IsReported continues (K.held out.old) (K.held out.new) (parse more bytes.now) false }
-    ensures cut { IsTrue (is_cut result) → GrowsByFront (K.held out.old) (K.held out.new) (report_of continues (parse more bytes.now)) }
-    ensures others { IsReportStatus result }
-    ensures cause { result ≡ Status.WriteFault → Rose (K.faults out.old) (K.faults out.new) }
-    ensures later { K.faults out.old ≤ K.faults out.new }
-{
-    let mut reader = FormReader::new(bytes, more);
-    status_of(write_report(alloc, &mut reader, continues, out))
 }

@@ -21,6 +21,23 @@ use ports::{Sink, put_all};
 use std::alloc::Global;
 use worlds::World;
 
+/// Writes the lines of an event, which are few.
+fn write_lines<K: Sink>(lines: &[Text], out: &mut K) -> Result<(), Stop>
+    ensures written { OnOk result (Grows (K.held out.old) (K.held out.new) (all_lines lines.now)) }
+    ensures cut { OnErr result (GrowsByFront (K.held out.old) (K.held out.new) (all_lines lines.now)) }
+    ensures cause { IsErrOf result Stop.WriteFault → Rose (K.faults out.old) (K.faults out.new) }
+    ensures later { K.faults out.old ≤ K.faults out.new }
+{
+    match lines {
+        [] => Ok(()),
+        [line, rest @ ..] => {
+            put_all(out, line.as_slice())?;
+            write_lines(rest, out)?;
+            Ok(())
+        }
+    }
+}
+
 /// Handles an event and writes its lines. Answers whether it wasn't refused.
 fn handle<K: Sink>(
     alloc: Global,
@@ -60,23 +77,6 @@ fn handle<K: Sink>(
     }
 }
 
-/// Writes the lines of an event, which are few.
-fn write_lines<K: Sink>(lines: &[Text], out: &mut K) -> Result<(), Stop>
-    ensures written { OnOk result (Grows (K.held out.old) (K.held out.new) (all_lines lines.now)) }
-    ensures cut { OnErr result (GrowsByFront (K.held out.old) (K.held out.new) (all_lines lines.now)) }
-    ensures cause { IsErrOf result Stop.WriteFault → Rose (K.faults out.old) (K.faults out.new) }
-    ensures later { K.faults out.old ≤ K.faults out.new }
-{
-    match lines {
-        [] => Ok(()),
-        [line, rest @ ..] => {
-            put_all(out, line.as_slice())?;
-            write_lines(rest, out)?;
-            Ok(())
-        }
-    }
-}
-
 /// Whether a run goes on after an event.
 fn goes_on(accepted: bool, continues: bool) -> bool
     ensures { result ≡ (accepted || continues) }
@@ -89,6 +89,26 @@ fn still_all(all: bool, accepted: bool) -> bool
     ensures { result ≡ (all && accepted) }
 {
     all && accepted
+}
+
+/// The last line.
+fn accepted_text(alloc: Global, events: u64, theorems: u64) -> Result<Text, Memory>
+    ensures { IfOk result (λ text. text ≡ codes "accepted " ++ (decimal events ++ (codes " events " ++ (decimal theorems ++ codes " theorems\n")))) }
+{
+    let text = format!(in alloc; "accepted {events} events {theorems} theorems\n")?;
+    Text::from_slice(alloc, text.as_bytes())
+}
+
+/// Writes the last line.
+fn write_last<K: Sink>(alloc: Global, progress: &Progress, out: &mut K) -> Result<(), Stop>
+    ensures written { OnOk result (Grows (K.held out.old) (K.held out.new) (last_line progress.now)) }
+    ensures cut { OnErr result (GrowsByFront (K.held out.old) (K.held out.new) (last_line progress.now)) }
+    ensures cause { IsErrOf result Stop.WriteFault → Rose (K.faults out.old) (K.faults out.new) }
+    ensures later { K.faults out.old ≤ K.faults out.new }
+{
+    let line = accepted_text(alloc, progress.counted, progress.world.theorems())?;
+    put_all(out, line.as_slice())?;
+    Ok(())
 }
 
 /// Handles an event and writes its lines, with the last line where the run ends with it. Answers whether it wasn't refused.
@@ -131,26 +151,6 @@ fn write_refusal<K: Sink>(
     ensures later { K.faults out.old ≤ K.faults out.new }
 {
     let line = refused_text(alloc, events + 1, why, place)?;
-    put_all(out, line.as_slice())?;
-    Ok(())
-}
-
-/// The last line.
-fn accepted_text(alloc: Global, events: u64, theorems: u64) -> Result<Text, Memory>
-    ensures { IfOk result (λ text. text ≡ codes "accepted " ++ (decimal events ++ (codes " events " ++ (decimal theorems ++ codes " theorems\n")))) }
-{
-    let text = format!(in alloc; "accepted {events} events {theorems} theorems\n")?;
-    Text::from_slice(alloc, text.as_bytes())
-}
-
-/// Writes the last line.
-fn write_last<K: Sink>(alloc: Global, progress: &Progress, out: &mut K) -> Result<(), Stop>
-    ensures written { OnOk result (Grows (K.held out.old) (K.held out.new) (last_line progress.now)) }
-    ensures cut { OnErr result (GrowsByFront (K.held out.old) (K.held out.new) (last_line progress.now)) }
-    ensures cause { IsErrOf result Stop.WriteFault → Rose (K.faults out.old) (K.faults out.new) }
-    ensures later { K.faults out.old ≤ K.faults out.new }
-{
-    let line = accepted_text(alloc, progress.counted, progress.world.theorems())?;
     put_all(out, line.as_slice())?;
     Ok(())
 }

@@ -63,20 +63,6 @@ pub fn print_usage<R: Eprint>(rt: &R) -> io::Result<()> {
     rt.eprintln(UsageFault)
 }
 
-/// What the words of a command ask for, without the program's name (docs/REPORT.md).
-pub(crate) fn read_words(alloc: Global, words: &Seq<Text>) -> Result<ModeLine, WordsError>
-    ensures mode { IfOk result (λ line. IsModeLine words.now) }
-    ensures continues { IfOk result (λ line. line.continues ≡ continues words.now) }
-    ensures shows { IfOk result (λ line. line.shows ≡ shows words.now) }
-    ensures refusal { IfErr result (IsRefusalOf words.now) }
-{
-    let texts = texts_of(alloc, words)?;
-    match command(alloc)?.try_get_matches_from(texts.as_slice()) {
-        Ok(matches) => line_of(&matches).ok_or(WordsError::Usage(UsageFault)),
-        Err(error) => Err(words_error(&error)),
-    }
-}
-
 /// The words as texts. A word that is no text is in no mode line.
 fn texts_of(alloc: Global, words: &Seq<Text>) -> Result<Vec<&str>, WordsError>
     ensures texts { IfOk result (λ texts. map (λ s. s.now) texts.items ≡ words.now) }
@@ -116,6 +102,16 @@ fn command<'a>(alloc: Global) -> Result<Command<'a>, AllocError>
     Ok(command)
 }
 
+/// The one mode so far takes no count.
+fn is_check(mode: Option<&str>, count: Option<&str>) -> bool
+    ensures { result ≡ is_check (option_map (λ s. s.now) mode.entry) (option_map (λ s. s.now) count.entry) }
+{
+    match mode {
+        Some(mode) => mode == "check" && count.is_none(),
+        None => false,
+    }
+}
+
 /// The mode line that clap's matches give.
 fn line_of(matches: &ArgMatches<'_>) -> Option<ModeLine>
     ensures { (flags : ModeLine) → HasFlags (rows_of (found_of matches.now)) flags → result ≡ line_in (rows_of (found_of matches.now)) flags }
@@ -129,16 +125,6 @@ fn line_of(matches: &ArgMatches<'_>) -> Option<ModeLine>
     })
 }
 
-/// The one mode so far takes no count.
-fn is_check(mode: Option<&str>, count: Option<&str>) -> bool
-    ensures { result ≡ is_check (option_map (λ s. s.now) mode.entry) (option_map (λ s. s.now) count.entry) }
-{
-    match mode {
-        Some(mode) => mode == "check" && count.is_none(),
-        None => false,
-    }
-}
-
 /// What a refusal by clap comes to.
 fn words_error(error: &Error) -> WordsError
     ensures memory { kind_of error.now ≡ ErrorKind.OutOfMemory → result ≡ WordsError.Memory }
@@ -146,5 +132,19 @@ fn words_error(error: &Error) -> WordsError
     match error.kind() {
         ErrorKind::OutOfMemory => WordsError::Memory,
         _ => WordsError::Usage(UsageFault),
+    }
+}
+
+/// What the words of a command ask for, without the program's name (docs/REPORT.md).
+pub(crate) fn read_words(alloc: Global, words: &Seq<Text>) -> Result<ModeLine, WordsError>
+    ensures mode { IfOk result (λ line. IsModeLine words.now) }
+    ensures continues { IfOk result (λ line. line.continues ≡ continues words.now) }
+    ensures shows { IfOk result (λ line. line.shows ≡ shows words.now) }
+    ensures refusal { IfErr result (IsRefusalOf words.now) }
+{
+    let texts = texts_of(alloc, words)?;
+    match command(alloc)?.try_get_matches_from(texts.as_slice()) {
+        Ok(matches) => line_of(&matches).ok_or(WordsError::Usage(UsageFault)),
+        Err(error) => Err(words_error(&error)),
     }
 }

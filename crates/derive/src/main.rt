@@ -7,15 +7,16 @@ use ports::{FileSink, FileSource, StdinSource, StdoutSink};
 use std::env;
 use std::process::ExitCode;
 
-fn main(rt: HostRuntime) -> ExitCode {
-    let status = match checked(&rt) {
-        Ok(status) => status,
-        Err(Memory) => Status::Memory,
+/// The words of the command, without the program's name.
+fn command_words(rt: &HostRuntime) -> Result<Words, Memory> {
+    let mut words = Words::new(rt.alloc());
+    let Ok(all) = env::args(rt) else {
+        return Err(Memory);
     };
-    if status == Status::Usage {
-        let _ = print_usage(&rt);
+    for word in all.skip(1) {
+        words.push(Text::from_slice(rt.alloc(), word.as_bytes())?)?;
     }
-    ExitCode::from(status.code())
+    Ok(words)
 }
 
 /// The file of the log in the working directory. The mode `check` neither reads nor writes it.
@@ -38,14 +39,13 @@ fn checked(rt: &HostRuntime) -> Result<Status, Memory> {
     ))
 }
 
-/// The words of the command, without the program's name.
-fn command_words(rt: &HostRuntime) -> Result<Words, Memory> {
-    let mut words = Words::new(rt.alloc());
-    let Ok(all) = env::args(rt) else {
-        return Err(Memory);
+fn main(rt: HostRuntime) -> ExitCode {
+    let status = match checked(&rt) {
+        Ok(status) => status,
+        Err(Memory) => Status::Memory,
     };
-    for word in all.skip(1) {
-        words.push(Text::from_slice(rt.alloc(), word.as_bytes())?)?;
+    if status == Status::Usage {
+        let _ = print_usage(&rt);
     }
-    Ok(words)
+    ExitCode::from(status.code())
 }

@@ -44,18 +44,43 @@ pub fn expand(alloc: Global, text: &str) -> Result<Vec<u8>> {
 }
 
 impl<'a> Expansion<'a> {
-    fn step(&mut self, byte: u8) -> Result<()> {
-        if self.out.len() > MOST_BYTES {
-            bail!("a text is longer than {MOST_BYTES} bytes");
+    /// A piece begins that comes so often.
+    fn repeat(&mut self, count: &str) -> Result<()> {
+        let Ok(count) = count.parse::<u64>() else {
+            bail!("{count} is no number of repetitions");
+        };
+        if count == 0 {
+            bail!("a piece comes once at least");
         }
-        match byte {
-            b'{' => self.enter(),
-            b'}' => self.leave(),
-            _ => {
-                self.out.push(byte)?;
-                self.place = self.place.saturating_add(1);
-                Ok(())
-            }
+        self.open.push(Repetition {
+            start: self.place,
+            left: count,
+            done: 0,
+        })?;
+        Ok(())
+    }
+
+    fn put(&mut self, bytes: &[u8]) -> Result<()> {
+        self.out.extend_from_slice(bytes)?;
+        Ok(())
+    }
+
+    fn put_number(&mut self, number: u64) -> Result<()> {
+        let text = format!(in *self.out.allocator(); "{number}")?;
+        self.put(text.as_bytes())
+    }
+
+    /// The bytes that a word in braces stands for.
+    fn write(&mut self, word: &str) -> Result<()> {
+        let done = self.open.last().map_or(0, |piece| piece.done);
+        match word {
+            "" => Ok(()),
+            "nl" => self.put(b"\n"),
+            "tab" => self.put(b"\t"),
+            "sp" => self.put(b" "),
+            "i" => self.put_number(done),
+            "i+1" => self.put_number(done.saturating_add(1)),
+            _ => self.put(&[hexadecimal(word)?]),
         }
     }
 
@@ -73,22 +98,6 @@ impl<'a> Expansion<'a> {
         } else {
             self.write(word)
         }
-    }
-
-    /// A piece begins that comes so often.
-    fn repeat(&mut self, count: &str) -> Result<()> {
-        let Ok(count) = count.parse::<u64>() else {
-            bail!("{count} is no number of repetitions");
-        };
-        if count == 0 {
-            bail!("a piece comes once at least");
-        }
-        self.open.push(Repetition {
-            start: self.place,
-            left: count,
-            done: 0,
-        })?;
-        Ok(())
     }
 
     /// The piece that was begun last ends here, or comes again.
@@ -109,28 +118,19 @@ impl<'a> Expansion<'a> {
         Ok(())
     }
 
-    /// The bytes that a word in braces stands for.
-    fn write(&mut self, word: &str) -> Result<()> {
-        let done = self.open.last().map_or(0, |piece| piece.done);
-        match word {
-            "" => Ok(()),
-            "nl" => self.put(b"\n"),
-            "tab" => self.put(b"\t"),
-            "sp" => self.put(b" "),
-            "i" => self.put_number(done),
-            "i+1" => self.put_number(done.saturating_add(1)),
-            _ => self.put(&[hexadecimal(word)?]),
+    fn step(&mut self, byte: u8) -> Result<()> {
+        if self.out.len() > MOST_BYTES {
+            bail!("a text is longer than {MOST_BYTES} bytes");
         }
-    }
-
-    fn put(&mut self, bytes: &[u8]) -> Result<()> {
-        self.out.extend_from_slice(bytes)?;
-        Ok(())
-    }
-
-    fn put_number(&mut self, number: u64) -> Result<()> {
-        let text = format!(in *self.out.allocator(); "{number}")?;
-        self.put(text.as_bytes())
+        match byte {
+            b'{' => self.enter(),
+            b'}' => self.leave(),
+            _ => {
+                self.out.push(byte)?;
+                self.place = self.place.saturating_add(1);
+                Ok(())
+            }
+        }
     }
 }
 

@@ -67,6 +67,18 @@ impl Case {
         }
     }
 
+    /// Whether the column of this number stands in some part.
+    fn has_column(&self, alloc: Global, number: usize) -> Result<bool, AllocError> {
+        let column = format!(in alloc; "{{{number}}}")?;
+        let column = column.as_str();
+        Ok(
+            self.words.contains(column)
+                || self.book.contains(column)
+                || self.report.contains(column)
+                || self.status.contains(column),
+        )
+    }
+
     /// The case in which these columns stand in their places. Each has one.
     pub fn filled(&self, alloc: Global, columns: &[&str]) -> Result<Case> {
         for place in 0..columns.len() {
@@ -81,18 +93,6 @@ impl Case {
             report: filled(alloc, self.report.as_str(), columns)?,
             status: filled(alloc, self.status.as_str(), columns)?,
         })
-    }
-
-    /// Whether the column of this number stands in some part.
-    fn has_column(&self, alloc: Global, number: usize) -> Result<bool, AllocError> {
-        let column = format!(in alloc; "{{{number}}}")?;
-        let column = column.as_str();
-        Ok(
-            self.words.contains(column)
-                || self.book.contains(column)
-                || self.report.contains(column)
-                || self.status.contains(column),
-        )
     }
 }
 

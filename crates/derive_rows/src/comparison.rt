@@ -18,35 +18,6 @@ struct Expected {
     report: Vec<u8>,
 }
 
-/// Runs a row of this file, and says where it differs.
-pub fn is_as_expected(rt: &HostRuntime, file: &str, row: &Row) -> Result<bool> {
-    let line = row.line;
-    compared(rt, file, row).context(format_args!("{file}:{line}"))
-}
-
-fn compared(rt: &HostRuntime, file: &str, row: &Row) -> Result<bool> {
-    let alloc = rt.alloc();
-    let words = command(alloc, row.case.words.as_str())?;
-    let book = expand(alloc, row.case.book.as_str())?;
-    let expected = Expected::of(alloc, row)?;
-    let room = expected.report.len().saturating_add(ROOM);
-    let outcome = run_in_memory(alloc, &words, book.as_slice(), room).map_err(no_memory)?;
-    let wanted = expected.report.as_slice();
-    let got = match &outcome.report {
-        Some(report) => report.as_slice(),
-        None => b"(a report of more bytes than there is room for)",
-    };
-    if outcome.status == expected.status && got == wanted {
-        return Ok(true);
-    }
-    let line = row.line;
-    let name = row.name.as_str();
-    println!(rt; "{file}:{line}: {name} differs")?;
-    tell_status(rt, outcome.status, expected.status)?;
-    tell_reports(rt, got, wanted)?;
-    Ok(false)
-}
-
 fn no_memory(_memory: Memory) -> anyhow::Error {
     anyhow!("no memory")
 }
@@ -65,6 +36,24 @@ fn command(alloc: Global, text: &str) -> Result<Words> {
     Ok(words)
 }
 
+fn tell_status(rt: &HostRuntime, got: u8, wanted: u8) -> Result<()> {
+    if got != wanted {
+        println!(rt; "  status {got}, and should be {wanted}")?;
+    }
+    Ok(())
+}
+
+/// The line that begins at this place.
+fn line_at(text: &[u8], start: usize) -> &str {
+    let rest = text.get(start..).unwrap_or(&[]);
+    let line = rest.split(|&byte| byte == b'\n').next().unwrap_or(&[]);
+    if rest.is_empty() {
+        "(nothing)"
+    } else {
+        str::from_utf8(line).unwrap_or("(no text)")
+    }
+}
+
 impl Expected {
     /// Each line of a report ends with a newline.
     fn of(alloc: Global, row: &Row) -> Result<Expected> {
@@ -77,13 +66,6 @@ impl Expected {
         }
         Ok(Expected { status, report })
     }
-}
-
-fn tell_status(rt: &HostRuntime, got: u8, wanted: u8) -> Result<()> {
-    if got != wanted {
-        println!(rt; "  status {got}, and should be {wanted}")?;
-    }
-    Ok(())
 }
 
 /// The first line in which two reports differ.
@@ -110,13 +92,31 @@ fn tell_reports(rt: &HostRuntime, got: &[u8], wanted: &[u8]) -> Result<()> {
     Ok(())
 }
 
-/// The line that begins at this place.
-fn line_at(text: &[u8], start: usize) -> &str {
-    let rest = text.get(start..).unwrap_or(&[]);
-    let line = rest.split(|&byte| byte == b'\n').next().unwrap_or(&[]);
-    if rest.is_empty() {
-        "(nothing)"
-    } else {
-        str::from_utf8(line).unwrap_or("(no text)")
+fn compared(rt: &HostRuntime, file: &str, row: &Row) -> Result<bool> {
+    let alloc = rt.alloc();
+    let words = command(alloc, row.case.words.as_str())?;
+    let book = expand(alloc, row.case.book.as_str())?;
+    let expected = Expected::of(alloc, row)?;
+    let room = expected.report.len().saturating_add(ROOM);
+    let outcome = run_in_memory(alloc, &words, book.as_slice(), room).map_err(no_memory)?;
+    let wanted = expected.report.as_slice();
+    let got = match &outcome.report {
+        Some(report) => report.as_slice(),
+        None => b"(a report of more bytes than there is room for)",
+    };
+    if outcome.status == expected.status && got == wanted {
+        return Ok(true);
     }
+    let line = row.line;
+    let name = row.name.as_str();
+    println!(rt; "{file}:{line}: {name} differs")?;
+    tell_status(rt, outcome.status, expected.status)?;
+    tell_reports(rt, got, wanted)?;
+    Ok(false)
+}
+
+/// Runs a row of this file, and says where it differs.
+pub fn is_as_expected(rt: &HostRuntime, file: &str, row: &Row) -> Result<bool> {
+    let line = row.line;
+    compared(rt, file, row).context(format_args!("{file}:{line}"))
 }

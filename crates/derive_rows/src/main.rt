@@ -11,15 +11,19 @@ use anyhow::{Context, Result, bail};
 use std::process::ExitCode;
 use std::{env, fs};
 
-fn main(rt: HostRuntime) -> ExitCode {
-    match run_files(&rt) {
-        Ok(0) => ExitCode::from(0),
-        Ok(_) => ExitCode::from(1),
-        Err(error) => {
-            let _ = eprintln!(rt; "derive_rows: {error:#}");
-            ExitCode::from(2)
+/// Runs the rows of a file, and gives how many there are and how many of them differed.
+fn run_file(rt: &HostRuntime, file: &str) -> Result<(u64, u64)> {
+    let text = fs::read_to_string(rt, file).context(format_args!("{file}"))?;
+    let rows = rows::read(rt.alloc(), text.as_str()).context(format_args!("{file}"))?;
+    let mut ran = 0u64;
+    let mut differing = 0u64;
+    for row in rows.iter() {
+        ran = ran.saturating_add(1);
+        if !comparison::is_as_expected(rt, file, row)? {
+            differing = differing.saturating_add(1);
         }
     }
+    Ok((ran, differing))
 }
 
 /// Runs all files, and says how many rows ran. It gives how many of them differed.
@@ -42,17 +46,13 @@ fn run_files(rt: &HostRuntime) -> Result<u64> {
     Ok(differing)
 }
 
-/// Runs the rows of a file, and gives how many there are and how many of them differed.
-fn run_file(rt: &HostRuntime, file: &str) -> Result<(u64, u64)> {
-    let text = fs::read_to_string(rt, file).context(format_args!("{file}"))?;
-    let rows = rows::read(rt.alloc(), text.as_str()).context(format_args!("{file}"))?;
-    let mut ran = 0u64;
-    let mut differing = 0u64;
-    for row in rows.iter() {
-        ran = ran.saturating_add(1);
-        if !comparison::is_as_expected(rt, file, row)? {
-            differing = differing.saturating_add(1);
+fn main(rt: HostRuntime) -> ExitCode {
+    match run_files(&rt) {
+        Ok(0) => ExitCode::from(0),
+        Ok(_) => ExitCode::from(1),
+        Err(error) => {
+            let _ = eprintln!(rt; "derive_rows: {error:#}");
+            ExitCode::from(2)
         }
     }
-    Ok((ran, differing))
 }

@@ -38,19 +38,8 @@ struct Reading {
     shapes: Vec<Shape>,
 }
 
-/// The rows of a file with this text, in order.
-pub fn read(alloc: Global, text: &str) -> Result<Vec<Row>> {
-    let mut reading = Reading {
-        alloc,
-        rows: Vec::new(alloc),
-        shapes: Vec::new(alloc),
-    };
-    let blocks = blocks(alloc, text)?;
-    for block in blocks.iter() {
-        let line = block.line;
-        reading.take(block).context(format_args!("line {line}"))?;
-    }
-    Ok(reading.rows)
+fn begins_block(line: &str) -> bool {
+    line.starts_with("row ") || line.starts_with("rows ") || line.starts_with("shape ")
 }
 
 /// The blocks of a file. Empty lines and comments belong to none.
@@ -76,31 +65,22 @@ fn blocks<'a>(alloc: Global, text: &'a str) -> Result<Vec<Block<'a>>> {
     Ok(blocks)
 }
 
-fn begins_block(line: &str) -> bool {
-    line.starts_with("row ") || line.starts_with("rows ") || line.starts_with("shape ")
+/// The rows of a file with this text, in order.
+pub fn read(alloc: Global, text: &str) -> Result<Vec<Row>> {
+    let mut reading = Reading {
+        alloc,
+        rows: Vec::new(alloc),
+        shapes: Vec::new(alloc),
+    };
+    let blocks = blocks(alloc, text)?;
+    for block in blocks.iter() {
+        let line = block.line;
+        reading.take(block).context(format_args!("line {line}"))?;
+    }
+    Ok(reading.rows)
 }
 
 impl Reading {
-    fn take(&mut self, block: &Block<'_>) -> Result<()> {
-        let Some((word, name)) = block.head.split_once(' ') else {
-            bail!("a name is missing");
-        };
-        match (word, name.split_once(": ")) {
-            ("row", None) => self.take_row(name, block),
-            ("shape", None) => self.take_shape(name, block),
-            ("shape", Some((name, base))) => self.derive_shape(name, base, block),
-            ("rows", Some((name, shape))) => self.take_table(name, shape, block),
-            ("rows", None) => bail!("the rows {name} have no shape"),
-            _ => bail!("a row has no shape"),
-        }
-    }
-
-    fn take_row(&mut self, name: &str, block: &Block<'_>) -> Result<()> {
-        let name = String::from_str(self.alloc, name)?;
-        let case = case_of(self.alloc, block)?;
-        self.add_row(name, block.line, case)
-    }
-
     /// No two rows of a file have one name.
     fn add_row(&mut self, name: String, line: usize, case: Case) -> Result<()> {
         for row in self.rows.iter() {
@@ -112,16 +92,32 @@ impl Reading {
         Ok(())
     }
 
-    fn take_shape(&mut self, name: &str, block: &Block<'_>) -> Result<()> {
+    fn take_row(&mut self, name: &str, block: &Block<'_>) -> Result<()> {
+        let name = String::from_str(self.alloc, name)?;
         let case = case_of(self.alloc, block)?;
-        self.add_shape(name, case)?;
-        Ok(())
+        self.add_row(name, block.line, case)
     }
 
     fn add_shape(&mut self, name: &str, case: Case) -> Result<(), AllocError> {
         let name = String::from_str(self.alloc, name)?;
         self.shapes.push(Shape { name, case })?;
         Ok(())
+    }
+
+    fn take_shape(&mut self, name: &str, block: &Block<'_>) -> Result<()> {
+        let case = case_of(self.alloc, block)?;
+        self.add_shape(name, case)?;
+        Ok(())
+    }
+
+    /// The shape of this name with these columns.
+    fn shaped(&self, name: &str, columns: &[&str]) -> Result<Case> {
+        for shape in self.shapes.iter() {
+            if shape.name.as_str() == name {
+                return shape.case.filled(self.alloc, columns);
+            }
+        }
+        bail!("there is no shape {name}")
     }
 
     /// A shape that gives another one these columns.
@@ -153,14 +149,18 @@ impl Reading {
         Ok(())
     }
 
-    /// The shape of this name with these columns.
-    fn shaped(&self, name: &str, columns: &[&str]) -> Result<Case> {
-        for shape in self.shapes.iter() {
-            if shape.name.as_str() == name {
-                return shape.case.filled(self.alloc, columns);
-            }
+    fn take(&mut self, block: &Block<'_>) -> Result<()> {
+        let Some((word, name)) = block.head.split_once(' ') else {
+            bail!("a name is missing");
+        };
+        match (word, name.split_once(": ")) {
+            ("row", None) => self.take_row(name, block),
+            ("shape", None) => self.take_shape(name, block),
+            ("shape", Some((name, base))) => self.derive_shape(name, base, block),
+            ("rows", Some((name, shape))) => self.take_table(name, shape, block),
+            ("rows", None) => bail!("the rows {name} have no shape"),
+            _ => bail!("a row has no shape"),
         }
-        bail!("there is no shape {name}")
     }
 }
 

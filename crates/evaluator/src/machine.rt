@@ -102,6 +102,50 @@ fn chosen<'a>(test: Value, yes: &'a Term, no: &'a Term) -> &'a Term
 }
 
 impl<'a> Machine<'a> {
+    /// Where the values that what waits uses end.
+    fn floor(&self) -> usize
+        ensures { result ≡ spec.top 0 self.now.frames.items }
+    {
+        match self.frames.last() {
+            None => 0,
+            Some(frame) => frame.height(),
+        }
+    }
+
+    /// Lets go of the values between what waits and `start`, which a tail call is done with, and says where those from
+    /// `start` on then begin.
+    fn lower(&mut self, start: usize) -> usize
+        requires stacked { spec.Stacked 0 self.old.frames.items start }
+        requires start { start ≤ length self.old.values.items }
+        ensures { spec.IsLowered self.old start self.new result }
+    {
+        let floor = self.floor();
+        if floor == start {
+            return floor;
+        }
+        drop(self.values.drain(floor..start));
+        floor
+    }
+
+    /// Begins a call of a definition.
+    fn enter(&mut self, definition: &'a Definition, start: usize) -> Result<Control<'a>, Halt>
+        requires stacked { spec.Stacked 0 self.old.frames.items start }
+        requires start { start ≤ length self.old.values.items }
+        ensures goes { (ds : List Definition) → spec.weight definition.now.body ≤ spec.heaviest ds → spec.Goes ds (spec.whole ds self.old (entered (body_run ds) definition.now (drop start (spec.vals self.old)) self.old.calls)) (spec.effort ds self.old 1) self.new result }
+        ensures known { self.new.callees ≡ self.old.callees }
+    {
+        if self.calls == 0 {
+            return Err(Halt::TooManyCalls);
+        }
+        if definition.formals.len() != self.values.len() - start {
+            return Err(Halt::NotWellFormed);
+        }
+        self.calls -= 1;
+        let start = self.lower(start);
+        let formals = definition.formals.as_slice();
+        Ok(Control::Evaluate(&definition.body, Scope { formals, start }))
+    }
+
     /// Calls a function on the values from `start` on.
     fn call(
         &mut self,
@@ -126,50 +170,6 @@ impl<'a> Machine<'a> {
             }
             Callee::Defined(definition) => self.enter(definition, start),
             Callee::Variable => Err(Halt::HasFunctionVariables(name.share()?)),
-        }
-    }
-
-    /// Begins a call of a definition.
-    fn enter(&mut self, definition: &'a Definition, start: usize) -> Result<Control<'a>, Halt>
-        requires stacked { spec.Stacked 0 self.old.frames.items start }
-        requires start { start ≤ length self.old.values.items }
-        ensures goes { (ds : List Definition) → spec.weight definition.now.body ≤ spec.heaviest ds → spec.Goes ds (spec.whole ds self.old (entered (body_run ds) definition.now (drop start (spec.vals self.old)) self.old.calls)) (spec.effort ds self.old 1) self.new result }
-        ensures known { self.new.callees ≡ self.old.callees }
-    {
-        if self.calls == 0 {
-            return Err(Halt::TooManyCalls);
-        }
-        if definition.formals.len() != self.values.len() - start {
-            return Err(Halt::NotWellFormed);
-        }
-        self.calls -= 1;
-        let start = self.lower(start);
-        let formals = definition.formals.as_slice();
-        Ok(Control::Evaluate(&definition.body, Scope { formals, start }))
-    }
-
-    /// Lets go of the values between what waits and `start`, which a tail call is done with, and says where those from
-    /// `start` on then begin.
-    fn lower(&mut self, start: usize) -> usize
-        requires stacked { spec.Stacked 0 self.old.frames.items start }
-        requires start { start ≤ length self.old.values.items }
-        ensures { spec.IsLowered self.old start self.new result }
-    {
-        let floor = self.floor();
-        if floor == start {
-            return floor;
-        }
-        drop(self.values.drain(floor..start));
-        floor
-    }
-
-    /// Where the values that what waits uses end.
-    fn floor(&self) -> usize
-        ensures { result ≡ spec.top 0 self.now.frames.items }
-    {
-        match self.frames.last() {
-            None => 0,
-            Some(frame) => frame.height(),
         }
     }
 

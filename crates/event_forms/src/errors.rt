@@ -26,11 +26,35 @@ impl EventError {
         }
     }
 
+    fn with_text(alloc: Global, code: Code, text: &[u8]) -> EventError
+        ensures { IsError code (Word text.now) result }
+    {
+        match Text::from_slice(alloc, text) {
+            Ok(text) => EventError::Refused {
+                code,
+                detail: Detail::Word(text),
+            },
+            Err(Memory) => EventError::Memory,
+        }
+    }
+
     /// A part of an event has another shape.
     pub(crate) fn bad_part(alloc: Global, word: &str) -> EventError
         ensures { IsError BadForm (Word word.now) result }
     {
         EventError::with_text(alloc, Code::BadForm, word.as_bytes())
+    }
+
+    fn with_name(code: Code, name: &Symbol) -> EventError
+        ensures { IsError code (Name name.now) result }
+    {
+        match name.share() {
+            Ok(name) => EventError::Refused {
+                code,
+                detail: Detail::Name(name),
+            },
+            Err(Memory) => EventError::Memory,
+        }
     }
 
     /// A key is given a second time, or its value is wrong or absent.
@@ -50,30 +74,6 @@ impl EventError {
         ensures { IsError BookNotKnown (Word text.now) result }
     {
         EventError::with_text(alloc, Code::BookNotKnown, text)
-    }
-
-    fn with_text(alloc: Global, code: Code, text: &[u8]) -> EventError
-        ensures { IsError code (Word text.now) result }
-    {
-        match Text::from_slice(alloc, text) {
-            Ok(text) => EventError::Refused {
-                code,
-                detail: Detail::Word(text),
-            },
-            Err(Memory) => EventError::Memory,
-        }
-    }
-
-    fn with_name(code: Code, name: &Symbol) -> EventError
-        ensures { IsError code (Name name.now) result }
-    {
-        match name.share() {
-            Ok(name) => EventError::Refused {
-                code,
-                detail: Detail::Name(name),
-            },
-            Err(Memory) => EventError::Memory,
-        }
     }
 }
 

@@ -51,6 +51,17 @@ const BOOKS: [&str; 7] = [
     "kestrel/apt/solve",
 ];
 
+/// A name in a place where one has to stand.
+fn name<'a>(alloc: Global, form: &'a Form) -> Result<&'a Symbol, EventError>
+    requires { IsProper form.now }
+    ensures { Says (λ name. name.now) (spec.name_of (form_of form.now)) result }
+{
+    match symbol(form) {
+        Some(name) => Ok(name),
+        None => Err(EventError::bad_part(alloc, "name")),
+    }
+}
+
 #[tactic(auto, unfolding(crate::specs::Shapes::books))]
 fn is_book(name: &[u8]) -> bool
     ensures { result ≡ is_in spec.books name.now }
@@ -118,17 +129,6 @@ fn include_book<'a>(alloc: Global, parts: &'a [Form]) -> Result<Event<'a>, Event
     Ok(Event::IncludeBook(name))
 }
 
-/// A name in a place where one has to stand.
-fn name<'a>(alloc: Global, form: &'a Form) -> Result<&'a Symbol, EventError>
-    requires { IsProper form.now }
-    ensures { Says (λ name. name.now) (spec.name_of (form_of form.now)) result }
-{
-    match symbol(form) {
-        Some(name) => Ok(name),
-        None => Err(EventError::bad_part(alloc, "name")),
-    }
-}
-
 fn formals<'a>(alloc: Global, form: &'a Form) -> Result<&'a [Form], EventError>
     requires { IsProper form.now }
     ensures formals { Says (λ formals. map form_of formals.now) (spec.formals_of (form_of form.now)) result }
@@ -138,22 +138,6 @@ fn formals<'a>(alloc: Global, form: &'a Form) -> Result<&'a [Form], EventError>
         Some(formals) => Ok(formals),
         None => Err(EventError::bad_part(alloc, "formals")),
     }
-}
-
-/// `(defun f (x ..) part .. body)`.
-fn defun<'a>(alloc: Global, parts: &'a [Form]) -> Result<Event<'a>, EventError>
-    requires { AllProper parts.now }
-    ensures event { Says seen (spec.defun (map form_of parts.now)) result }
-    ensures proper { IfOk result HasProperParts }
-{
-    if is_early_defun(parts) {
-        return Err(EventError::not_an_event());
-    }
-    let [function, rest @ ..] = parts else {
-        return Err(EventError::bad_part(alloc, "arguments"));
-    };
-    let function = name(alloc, function)?;
-    defun_after(alloc, function, rest)
 }
 
 /// Whether the parts of a function declare a key that isn't there yet.
@@ -194,6 +178,33 @@ fn defun_after<'a>(
     }))
 }
 
+/// `(defun f (x ..) part .. body)`.
+fn defun<'a>(alloc: Global, parts: &'a [Form]) -> Result<Event<'a>, EventError>
+    requires { AllProper parts.now }
+    ensures event { Says seen (spec.defun (map form_of parts.now)) result }
+    ensures proper { IfOk result HasProperParts }
+{
+    if is_early_defun(parts) {
+        return Err(EventError::not_an_event());
+    }
+    let [function, rest @ ..] = parts else {
+        return Err(EventError::bad_part(alloc, "arguments"));
+    };
+    let function = name(alloc, function)?;
+    defun_after(alloc, function, rest)
+}
+
+/// Whether the parts of a theorem have a key that isn't there yet.
+fn is_early_defthm(parts: &[Form]) -> bool
+    requires { AllProper parts.now }
+    ensures { result ≡ spec.is_early_defthm (map form_of parts.now) }
+{
+    match parts {
+        [_, _, rest @ ..] => has_unbuilt(Keyed::Theorem, rest),
+        _ => false,
+    }
+}
+
 /// `(defthm n formula key value ..)`.
 fn defthm<'a>(alloc: Global, parts: &'a [Form]) -> Result<Event<'a>, EventError>
     requires { AllProper parts.now }
@@ -212,17 +223,6 @@ fn defthm<'a>(alloc: Global, parts: &'a [Form]) -> Result<Event<'a>, EventError>
     };
     read_keys(alloc, Keyed::Theorem, Symbols::new(alloc), rest)?;
     Ok(Event::Defthm(theorem, formula, value_of(":PROOF", rest)))
-}
-
-/// Whether the parts of a theorem have a key that isn't there yet.
-fn is_early_defthm(parts: &[Form]) -> bool
-    requires { AllProper parts.now }
-    ensures { result ≡ spec.is_early_defthm (map form_of parts.now) }
-{
-    match parts {
-        [_, _, rest @ ..] => has_unbuilt(Keyed::Theorem, rest),
-        _ => false,
-    }
 }
 
 /// `(value-triple form)`.

@@ -1,3 +1,5 @@
+//! Tests of the reading of events: a theorem, a function and a book are read, and what is wrong is refused with its code and detail.
+
 ghost use Rattle.std.specs.Prelude.{IfOk};
 ghost use Rattle.lisp_data.specs.FormView.{IsProper};
 

@@ -41,13 +41,6 @@ impl Halt {
         Halt::without_detail(Code::NotAnEvent)
     }
 
-    /// A part of an event has another shape.
-    pub(crate) fn bad_part(alloc: Global, word: &str) -> Halt
-        ensures { IsCoded BadForm (Word word.now) result }
-    {
-        Halt::word(alloc, Code::BadForm, word)
-    }
-
     /// A word is refused, by its code.
     pub(crate) fn word(alloc: Global, code: Code, word: &str) -> Halt
         ensures { IsCoded code (Word word.now) result }
@@ -59,6 +52,13 @@ impl Halt {
             }),
             Err(Memory) => Halt::Memory,
         }
+    }
+
+    /// A part of an event has another shape.
+    pub(crate) fn bad_part(alloc: Global, word: &str) -> Halt
+        ensures { IsCoded BadForm (Word word.now) result }
+    {
+        Halt::word(alloc, Code::BadForm, word)
     }
 
     /// A name is refused, by its code.

@@ -24,38 +24,33 @@ pub enum Repeats<'a> {
     AsTheorem(&'a Symbol, &'a Form),
 }
 
-/// Whether an event was accepted before (docs/EVENTS.md, "Redundancy").
-pub(crate) fn is_redundant(
-    alloc: Global,
-    world: &World,
-    form: &Form,
-    repeats: &Repeats<'_>,
-) -> Result<bool, Memory>
-    requires form { IsProper form.now }
-    requires formula { HasProperFormula repeats.now }
-    ensures { IfOk result (λ b. b ≡ spec.is_redundant world.now (form_of form.now) (repeats_seen repeats.now)) }
+/// The term that a formula stands for, if it stands for one.
+fn term_of(alloc: Global, world: &World, formula: &Form) -> Result<Option<Term>, Memory>
+    requires { IsProper formula.now }
+    ensures { IfOk result (λ t. t ≡ spec.term_of world.now (form_of formula.now)) }
 {
-    match repeats {
-        Repeats::Never => Ok(false),
-        Repeats::AsForm => Ok(world.has_event(form)),
-        Repeats::AsTheorem(name, formula) => {
-            if world.has_event(form) {
-                return Ok(true);
-            }
-            restates(alloc, world, name, formula)
-        }
+    match translate(alloc, formula, world, &Scope::Any) {
+        Ok(term) => Ok(Some(term)),
+        Err(error) => match error {
+            TermError::Refused { code: _, detail: _ } => Ok(None),
+            TermError::Memory => Err(Memory),
+        },
     }
 }
 
-/// Whether an earlier theorem of this name has a formula that stands for the same term.
-fn restates(alloc: Global, world: &World, name: &Symbol, formula: &Form) -> Result<bool, Memory>
-    requires { IsProper formula.now }
-    ensures { IfOk result (λ b. b ≡ spec.restates world.now (form_of formula.now) (find_defthm world.now.events name.now)) }
+/// Whether two formulas stand for the same term.
+fn same_formulas(alloc: Global, world: &World, a: &Form, b: &Form) -> Result<bool, Memory>
+    requires a { IsProper a.now }
+    requires b { IsProper b.now }
+    ensures { IfOk result (λ c. c ≡ spec.same_formulas world.now (form_of a.now) (form_of b.now)) }
 {
-    match world.find_defthm(name) {
-        None => Ok(false),
-        Some(earlier) => states(alloc, world, formula, earlier),
-    }
+    let Some(a) = term_of(alloc, world, a)? else {
+        return Ok(false);
+    };
+    let Some(b) = term_of(alloc, world, b)? else {
+        return Ok(false);
+    };
+    Ok(a.same(&b))
 }
 
 /// Whether an event is a theorem whose formula stands for the same term.
@@ -76,31 +71,36 @@ fn states(alloc: Global, world: &World, formula: &Form, event: &Form) -> Result<
     }
 }
 
-/// Whether two formulas stand for the same term.
-fn same_formulas(alloc: Global, world: &World, a: &Form, b: &Form) -> Result<bool, Memory>
-    requires a { IsProper a.now }
-    requires b { IsProper b.now }
-    ensures { IfOk result (λ c. c ≡ spec.same_formulas world.now (form_of a.now) (form_of b.now)) }
+/// Whether an earlier theorem of this name has a formula that stands for the same term.
+fn restates(alloc: Global, world: &World, name: &Symbol, formula: &Form) -> Result<bool, Memory>
+    requires { IsProper formula.now }
+    ensures { IfOk result (λ b. b ≡ spec.restates world.now (form_of formula.now) (find_defthm world.now.events name.now)) }
 {
-    let Some(a) = term_of(alloc, world, a)? else {
-        return Ok(false);
-    };
-    let Some(b) = term_of(alloc, world, b)? else {
-        return Ok(false);
-    };
-    Ok(a.same(&b))
+    match world.find_defthm(name) {
+        None => Ok(false),
+        Some(earlier) => states(alloc, world, formula, earlier),
+    }
 }
 
-/// The term that a formula stands for, if it stands for one.
-fn term_of(alloc: Global, world: &World, formula: &Form) -> Result<Option<Term>, Memory>
-    requires { IsProper formula.now }
-    ensures { IfOk result (λ t. t ≡ spec.term_of world.now (form_of formula.now)) }
+/// Whether an event was accepted before (docs/EVENTS.md, "Redundancy").
+pub(crate) fn is_redundant(
+    alloc: Global,
+    world: &World,
+    form: &Form,
+    repeats: &Repeats<'_>,
+) -> Result<bool, Memory>
+    requires form { IsProper form.now }
+    requires formula { HasProperFormula repeats.now }
+    ensures { IfOk result (λ b. b ≡ spec.is_redundant world.now (form_of form.now) (repeats_seen repeats.now)) }
 {
-    match translate(alloc, formula, world, &Scope::Any) {
-        Ok(term) => Ok(Some(term)),
-        Err(error) => match error {
-            TermError::Refused { code: _, detail: _ } => Ok(None),
-            TermError::Memory => Err(Memory),
-        },
+    match repeats {
+        Repeats::Never => Ok(false),
+        Repeats::AsForm => Ok(world.has_event(form)),
+        Repeats::AsTheorem(name, formula) => {
+            if world.has_event(form) {
+                return Ok(true);
+            }
+            restates(alloc, world, name, formula)
+        }
     }
 }

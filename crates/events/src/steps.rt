@@ -37,6 +37,27 @@ pub enum StepAnswer {
     Refused(u8, Lines),
 }
 
+/// The answer to an event, by its kind; a refusal has no line yet.
+fn answer(alloc: Global, world: &World, form: &Form) -> Result<StepAnswer, Halt>
+    requires { IsProper form.now }
+    ensures { Answers world.now (form_of form.now) (event_of (form_of form.now)) result }
+{
+    match read_event(alloc, form)? {
+        Event::InPackage => handle(alloc, world, form, &InPackage),
+        Event::IncludeBook(book) => handle(alloc, world, form, &IncludeBook { book }),
+        Event::Defun(function) => handle(alloc, world, form, &Defun { function }),
+        Event::Defthm(name, formula, proof) => {
+            let event = Defthm {
+                name,
+                formula,
+                proof,
+            };
+            handle(alloc, world, form, &event)
+        }
+        Event::ValueTriple(part) => value_triple::print(alloc, world, part),
+    }
+}
+
 /// Handles an event, which is the book's event of this index, counted from 1. The world stays as it is.
 pub fn step(
     alloc: Global,
@@ -58,26 +79,5 @@ pub fn step(
             }
             Halt::Memory => Err(Memory),
         },
-    }
-}
-
-/// The answer to an event, by its kind; a refusal has no line yet.
-fn answer(alloc: Global, world: &World, form: &Form) -> Result<StepAnswer, Halt>
-    requires { IsProper form.now }
-    ensures { Answers world.now (form_of form.now) (event_of (form_of form.now)) result }
-{
-    match read_event(alloc, form)? {
-        Event::InPackage => handle(alloc, world, form, &InPackage),
-        Event::IncludeBook(book) => handle(alloc, world, form, &IncludeBook { book }),
-        Event::Defun(function) => handle(alloc, world, form, &Defun { function }),
-        Event::Defthm(name, formula, proof) => {
-            let event = Defthm {
-                name,
-                formula,
-                proof,
-            };
-            handle(alloc, world, form, &event)
-        }
-        Event::ValueTriple(part) => value_triple::print(alloc, world, part),
     }
 }

@@ -28,6 +28,18 @@ impl HintError {
         }
     }
 
+    fn with_name(code: Code, name: &Symbol) -> HintError
+        ensures { IsError code (Name name.now) result }
+    {
+        match name.share() {
+            Ok(name) => HintError::Refused {
+                code,
+                detail: Detail::Name(name),
+            },
+            Err(Memory) => HintError::Memory,
+        }
+    }
+
     /// The step has another shape.
     #[tactic(auto, unfolding(lisp_data::specs::SymbolText::is_symbol_text, lisp_data::specs::Atoms::leaf, lisp_data::specs::Atoms::in_atom, lisp_data::specs::Atoms::is_delimiter, lisp_data::specs::Atoms::is_sign))]
     pub(crate) fn bad_hint(alloc: Global) -> HintError
@@ -58,18 +70,6 @@ impl HintError {
         ensures { IsError WrongArity (Name name.now) result }
     {
         HintError::with_name(Code::WrongArity, name)
-    }
-
-    fn with_name(code: Code, name: &Symbol) -> HintError
-        ensures { IsError code (Name name.now) result }
-    {
-        match name.share() {
-            Ok(name) => HintError::Refused {
-                code,
-                detail: Detail::Name(name),
-            },
-            Err(Memory) => HintError::Memory,
-        }
     }
 }
 

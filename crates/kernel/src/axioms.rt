@@ -13,46 +13,10 @@ use std::alloc::Global;
 use terms::{Sequent, Subst, Term, substitute};
 use worlds::World;
 
-/// Axiom: the axiom with this number, under a substitution.
-pub(crate) fn axiom_instance(
-    alloc: Global,
-    world: &World,
-    number: u32,
-    s: &Subst,
-) -> Result<Sequent, RuleError>
-    ensures { SaysSequent (spec.axiom_instance world.now.functions number s.now) result }
-{
-    if !is_axiom(number) || !pairs_fit(world, s) {
-        return Err(RuleError::Refused);
-    }
-    let axiom = axiom_at(alloc, number)?;
-    let goal = substitute(alloc, &axiom, s)?;
-    Ok(of_goal(alloc, goal))
-}
-
 fn is_axiom(number: u32) -> bool
     ensures { result ≡ is_some (spec.axiom_at number) }
 {
     1 <= number && number <= 35
-}
-
-#[tactic(auto, unfolding(crate::specs::Axioms::axiom_at))]
-fn axiom_at(alloc: Global, number: u32) -> Result<Term, Memory>
-    requires { IsSome (spec.axiom_at number) }
-    ensures { IfOk result (λ t. spec.axiom_at number ≡ Some t) }
-{
-    let formulas = Formulas::new(alloc);
-    if number <= 7 {
-        on_truth(&formulas, number)
-    } else if number <= 16 {
-        on_pairs(&formulas, number)
-    } else if number <= 23 {
-        on_integers(&formulas, number)
-    } else if number <= 31 {
-        on_order(&formulas, number)
-    } else {
-        on_counts(&formulas, number)
-    }
 }
 
 /// Axioms 1 to 7: T is true, NIL alone is false, and predicates give T or NIL.
@@ -121,6 +85,27 @@ fn on_integers(f: &Formulas, number: u32) -> Result<Term, Memory>
     }
 }
 
+/// Neither of two numbers is less than the other: they are the same.
+fn same_numbers(f: &Formulas) -> Result<Term, Memory>
+    ensures { IfOk result (λ t. t ≡ spec.same_numbers) }
+{
+    let first = f.plus(f.number(0)?, f.x()?)?;
+    let second = f.plus(f.number(0)?, f.y()?)?;
+    let goal = f.equal(first, second)?;
+    let last = f.implies(f.not(f.less(f.y()?, f.x()?)?)?, goal)?;
+    f.implies(f.not(f.less(f.x()?, f.y()?)?)?, last)
+}
+
+/// The product of two positive numbers is positive.
+fn positive_products(f: &Formulas) -> Result<Term, Memory>
+    ensures { IfOk result (λ t. t ≡ spec.positive_products) }
+{
+    let product = f.times(f.x()?, f.y()?)?;
+    let goal = f.less(f.number(0)?, product)?;
+    let last = f.implies(f.less(f.number(0)?, f.y()?)?, goal)?;
+    f.implies(f.less(f.number(0)?, f.x()?)?, last)
+}
+
 /// Axioms 24 to 31: the order of numbers, with sums and products.
 #[tactic(auto, unfolding(crate::specs::Axioms::on_order))]
 fn on_order(f: &Formulas, number: u32) -> Result<Term, Memory>
@@ -153,27 +138,6 @@ fn on_order(f: &Formulas, number: u32) -> Result<Term, Memory>
     }
 }
 
-/// Neither of two numbers is less than the other: they are the same.
-fn same_numbers(f: &Formulas) -> Result<Term, Memory>
-    ensures { IfOk result (λ t. t ≡ spec.same_numbers) }
-{
-    let first = f.plus(f.number(0)?, f.x()?)?;
-    let second = f.plus(f.number(0)?, f.y()?)?;
-    let goal = f.equal(first, second)?;
-    let last = f.implies(f.not(f.less(f.y()?, f.x()?)?)?, goal)?;
-    f.implies(f.not(f.less(f.x()?, f.y()?)?)?, last)
-}
-
-/// The product of two positive numbers is positive.
-fn positive_products(f: &Formulas) -> Result<Term, Memory>
-    ensures { IfOk result (λ t. t ≡ spec.positive_products) }
-{
-    let product = f.times(f.x()?, f.y()?)?;
-    let goal = f.less(f.number(0)?, product)?;
-    let last = f.implies(f.less(f.number(0)?, f.y()?)?, goal)?;
-    f.implies(f.less(f.number(0)?, f.x()?)?, last)
-}
-
 /// Axioms 32 to 35: the count of a pair, of an integer and of a symbol is a natural number.
 #[tactic(auto, unfolding(crate::specs::Axioms::on_counts))]
 fn on_counts(f: &Formulas, number: u32) -> Result<Term, Memory>
@@ -193,4 +157,40 @@ fn on_counts(f: &Formulas, number: u32) -> Result<Term, Memory>
         }
         _ => f.implies(f.symbolp(f.x()?)?, f.equal(f.count(f.x()?)?, f.number(0)?)?),
     }
+}
+
+#[tactic(auto, unfolding(crate::specs::Axioms::axiom_at))]
+fn axiom_at(alloc: Global, number: u32) -> Result<Term, Memory>
+    requires { IsSome (spec.axiom_at number) }
+    ensures { IfOk result (λ t. spec.axiom_at number ≡ Some t) }
+{
+    let formulas = Formulas::new(alloc);
+    if number <= 7 {
+        on_truth(&formulas, number)
+    } else if number <= 16 {
+        on_pairs(&formulas, number)
+    } else if number <= 23 {
+        on_integers(&formulas, number)
+    } else if number <= 31 {
+        on_order(&formulas, number)
+    } else {
+        on_counts(&formulas, number)
+    }
+}
+
+/// Axiom: the axiom with this number, under a substitution.
+pub(crate) fn axiom_instance(
+    alloc: Global,
+    world: &World,
+    number: u32,
+    s: &Subst,
+) -> Result<Sequent, RuleError>
+    ensures { SaysSequent (spec.axiom_instance world.now.functions number s.now) result }
+{
+    if !is_axiom(number) || !pairs_fit(world, s) {
+        return Err(RuleError::Refused);
+    }
+    let axiom = axiom_at(alloc, number)?;
+    let goal = substitute(alloc, &axiom, s)?;
+    Ok(of_goal(alloc, goal))
 }

@@ -17,41 +17,6 @@ use proof_objects::{Proof, Rule};
 use std::alloc::Global;
 use worlds::World;
 
-/// Checks a proof in a world, node by node. `Memory` comes also where a node's number doesn't fit.
-pub fn check(alloc: Global, world: &World, proof: &Proof) -> Result<Proved, CheckError>
-    ensures ok { IfOk result (λ it. IsProvedBy it world.now proof.now) }
-    ensures no_bad { IfOk result (λ it. first_bad world.now 0 proof.now ≡ None) }
-    ensures wrong { IfProofWrong result (λ node rule. IsBadAt (first_bad world.now 0 proof.now) node rule) }
-    ensures limits { IfLimitAt result (λ node code. IsLimitAt (first_bad world.now 0 proof.now) node code) }
-    ensures nothing { OnRefusal result (concludes world.now proof.now ≡ None) }
-    ensures few { OnOk result (steps proof.now < 2 ^ 32) }
-{
-    let (proved, _nodes) = check_from(alloc, world, proof, 0)?;
-    Ok(proved)
-}
-
-/// The same, where so many nodes stand before the proof's; and how many stand up to its end.
-#[cycle(check)]
-#[tactic(auto, using(crate::proofs::Premises::premises))]
-fn check_from(
-    alloc: Global,
-    world: &World,
-    proof: &Proof,
-    before: u32,
-) -> Result<(Proved, u32), CheckError>
-    ensures ok { IfOk result (λ it. IsProvedBy it.0 world.now proof.now) }
-    ensures counted { IfOk result (λ it. it.1 ≡ before + steps proof.now) }
-    ensures no_bad { IfOk result (λ it. first_bad world.now before proof.now ≡ None) }
-    ensures wrong { IfProofWrong result (λ node rule. IsBadAt (first_bad world.now before proof.now) node rule) }
-    ensures limits { IfLimitAt result (λ node code. IsLimitAt (first_bad world.now before proof.now) node code) }
-    ensures nothing { OnRefusal result (concludes world.now proof.now ≡ None) }
-{
-    let node = proof.node();
-    let (premises, last) = check_all(alloc, world, node.subproofs.as_slice(), before)?;
-    let ruled = last_step(alloc, world, proof, premises.as_slice());
-    numbered(ruled, last, node.step.rule())
-}
-
 /// Checks proofs one after the other.
 #[cycle(check)]
 #[tactic(auto, using(crate::proofs::Premises::premises))]
@@ -108,4 +73,39 @@ fn numbered(ruled: Ruled, before: u32, rule: Rule) -> Result<(Proved, u32), Chec
         Err(RuleError::Limit(code)) => Err(CheckError::Limit { node, code }),
         Err(RuleError::Memory) => Err(CheckError::Memory),
     }
+}
+
+/// The same, where so many nodes stand before the proof's; and how many stand up to its end.
+#[cycle(check)]
+#[tactic(auto, using(crate::proofs::Premises::premises))]
+fn check_from(
+    alloc: Global,
+    world: &World,
+    proof: &Proof,
+    before: u32,
+) -> Result<(Proved, u32), CheckError>
+    ensures ok { IfOk result (λ it. IsProvedBy it.0 world.now proof.now) }
+    ensures counted { IfOk result (λ it. it.1 ≡ before + steps proof.now) }
+    ensures no_bad { IfOk result (λ it. first_bad world.now before proof.now ≡ None) }
+    ensures wrong { IfProofWrong result (λ node rule. IsBadAt (first_bad world.now before proof.now) node rule) }
+    ensures limits { IfLimitAt result (λ node code. IsLimitAt (first_bad world.now before proof.now) node code) }
+    ensures nothing { OnRefusal result (concludes world.now proof.now ≡ None) }
+{
+    let node = proof.node();
+    let (premises, last) = check_all(alloc, world, node.subproofs.as_slice(), before)?;
+    let ruled = last_step(alloc, world, proof, premises.as_slice());
+    numbered(ruled, last, node.step.rule())
+}
+
+/// Checks a proof in a world, node by node. `Memory` comes also where a node's number doesn't fit.
+pub fn check(alloc: Global, world: &World, proof: &Proof) -> Result<Proved, CheckError>
+    ensures ok { IfOk result (λ it. IsProvedBy it world.now proof.now) }
+    ensures no_bad { IfOk result (λ it. first_bad world.now 0 proof.now ≡ None) }
+    ensures wrong { IfProofWrong result (λ node rule. IsBadAt (first_bad world.now 0 proof.now) node rule) }
+    ensures limits { IfLimitAt result (λ node code. IsLimitAt (first_bad world.now 0 proof.now) node code) }
+    ensures nothing { OnRefusal result (concludes world.now proof.now ≡ None) }
+    ensures few { OnOk result (steps proof.now < 2 ^ 32) }
+{
+    let (proved, _nodes) = check_from(alloc, world, proof, 0)?;
+    Ok(proved)
 }

@@ -24,24 +24,6 @@ use std::alloc::Global;
 use terms::{Sequent, Term};
 use worlds::World;
 
-/// What a step concludes from the premises (docs/KERNEL.md).
-#[tactic(auto, using(crate::proofs::Arms::arms))]
-pub(crate) fn conclude(
-    alloc: Global,
-    world: &World,
-    step: &Step,
-    premises: &[Proved],
-) -> Result<Sequent, RuleError>
-    ensures { SaysStep (conclude world.now step.now (sequents_of premises.now)) (code_of world.now step.now (sequents_of premises.now)) result }
-{
-    match premises {
-        [] => from_none(alloc, world, step),
-        [p] => from_one(alloc, world, step, p.sequent()),
-        [p, q] => from_two(alloc, world, step, p.sequent(), q.sequent()),
-        [p, q, rest @ ..] => from_more(alloc, world, step, p.sequent(), q.sequent(), rest),
-    }
-}
-
 fn from_none(alloc: Global, world: &World, step: &Step) -> Result<Sequent, RuleError>
     ensures { SaysStep (conclude world.now step.now []) (code_alone world.now step.now) result }
 {
@@ -69,6 +51,25 @@ fn from_one(alloc: Global, world: &World, step: &Step, p: &Sequent) -> Result<Se
         Step::ImpliesIn(h) => implied(alloc, world, h, p),
         _ => Err(RuleError::Refused),
     }
+}
+
+#[tactic(auto, using(crate::proofs::Cases::cases))]
+fn induction(
+    alloc: Global,
+    world: &World,
+    measure: &Term,
+    cases: &InductionCases,
+    natural: &Sequent,
+    base: &Sequent,
+    falls: &[Proved],
+) -> Result<Sequent, RuleError>
+    ensures { SaysStep (induced world.now.functions measure.now cases.now natural.now base.now (sequents_of falls.now)) WrongProof result }
+{
+    if cases.len() != falls.len() {
+        return Err(RuleError::Refused);
+    }
+    let cases = paired(alloc, cases.as_slice(), falls)?;
+    induced(alloc, world, measure, natural, base, cases.as_slice())
 }
 
 fn from_two(
@@ -110,21 +111,20 @@ fn from_more(
     }
 }
 
-#[tactic(auto, using(crate::proofs::Cases::cases))]
-fn induction(
+/// What a step concludes from the premises (docs/KERNEL.md).
+#[tactic(auto, using(crate::proofs::Arms::arms))]
+pub(crate) fn conclude(
     alloc: Global,
     world: &World,
-    measure: &Term,
-    cases: &InductionCases,
-    natural: &Sequent,
-    base: &Sequent,
-    falls: &[Proved],
+    step: &Step,
+    premises: &[Proved],
 ) -> Result<Sequent, RuleError>
-    ensures { SaysStep (induced world.now.functions measure.now cases.now natural.now base.now (sequents_of falls.now)) WrongProof result }
+    ensures { SaysStep (conclude world.now step.now (sequents_of premises.now)) (code_of world.now step.now (sequents_of premises.now)) result }
 {
-    if cases.len() != falls.len() {
-        return Err(RuleError::Refused);
+    match premises {
+        [] => from_none(alloc, world, step),
+        [p] => from_one(alloc, world, step, p.sequent()),
+        [p, q] => from_two(alloc, world, step, p.sequent(), q.sequent()),
+        [p, q, rest @ ..] => from_more(alloc, world, step, p.sequent(), q.sequent(), rest),
     }
-    let cases = paired(alloc, cases.as_slice(), falls)?;
-    induced(alloc, world, measure, natural, base, cases.as_slice())
 }

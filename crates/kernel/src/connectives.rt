@@ -13,6 +13,17 @@ use lisp_data::{Memory, Seq, Symbol};
 use std::alloc::Global;
 use terms::{Node, Term, Terms};
 
+fn call2(alloc: Global, name: &str, a: Term, b: Term) -> Result<Term, Memory>
+    requires { is_symbol_text name.now ≡ true }
+    ensures { IfOk result (λ t. t ≡ Call2 name.now a b) }
+{
+    let name = Symbol::named(alloc, name)?;
+    let mut args = Seq::new(alloc);
+    args.push(a)?;
+    args.push(b)?;
+    Term::call(alloc, name, args)
+}
+
 /// `(equal a b)`
 pub(crate) fn equation(alloc: Global, a: Term, b: Term) -> Result<Term, Memory>
     ensures { IfOk result (λ t. t ≡ equation a b) }
@@ -49,15 +60,20 @@ pub(crate) fn conditional(alloc: Global, a: Term, b: Term, c: Term) -> Result<Te
     Term::call(alloc, name, args)
 }
 
-fn call2(alloc: Global, name: &str, a: Term, b: Term) -> Result<Term, Memory>
-    requires { is_symbol_text name.now ≡ true }
-    ensures { IfOk result (λ t. t ≡ Call2 name.now a b) }
+/// The arguments of a call of the function with this name.
+fn args_of<'a>(name: &str, term: &'a Term) -> Option<&'a Terms>
+    ensures { option_map (λ ts. tms ts.now) result ≡ args_of name.now term.now }
 {
-    let name = Symbol::named(alloc, name)?;
-    let mut args = Seq::new(alloc);
-    args.push(a)?;
-    args.push(b)?;
-    Term::call(alloc, name, args)
+    match term.node() {
+        Node::Var(_) => None,
+        Node::Quote(_) => None,
+        Node::Call(function, args) => {
+            if function.text() != name {
+                return None;
+            }
+            Some(args)
+        }
+    }
 }
 
 /// What a negation negates.
@@ -70,6 +86,19 @@ pub(crate) fn negated_of<'a>(term: &'a Term) -> Option<&'a Term>
     };
     match args.as_slice() {
         [negated] => Some(negated),
+        _ => None,
+    }
+}
+
+#[tactic(auto, using(crate::proofs::Args::parts))]
+fn sides_of<'a>(name: &str, term: &'a Term) -> Option<(&'a Term, &'a Term)>
+    ensures { option_map (λ e. (e.0.now, e.1.now)) result ≡ sides_of name.now term.now }
+{
+    let Some(args) = args_of(name, term) else {
+        return None;
+    };
+    match args.as_slice() {
+        [left, right] => Some((left, right)),
         _ => None,
     }
 }
@@ -106,34 +135,5 @@ pub(crate) fn natural_of<'a>(term: &'a Term) -> Option<&'a Term>
     match args.as_slice() {
         [natural] => Some(natural),
         _ => None,
-    }
-}
-
-#[tactic(auto, using(crate::proofs::Args::parts))]
-fn sides_of<'a>(name: &str, term: &'a Term) -> Option<(&'a Term, &'a Term)>
-    ensures { option_map (λ e. (e.0.now, e.1.now)) result ≡ sides_of name.now term.now }
-{
-    let Some(args) = args_of(name, term) else {
-        return None;
-    };
-    match args.as_slice() {
-        [left, right] => Some((left, right)),
-        _ => None,
-    }
-}
-
-/// The arguments of a call of the function with this name.
-fn args_of<'a>(name: &str, term: &'a Term) -> Option<&'a Terms>
-    ensures { option_map (λ ts. tms ts.now) result ≡ args_of name.now term.now }
-{
-    match term.node() {
-        Node::Var(_) => None,
-        Node::Quote(_) => None,
-        Node::Call(function, args) => {
-            if function.text() != name {
-                return None;
-            }
-            Some(args)
-        }
     }
 }

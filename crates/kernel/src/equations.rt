@@ -28,6 +28,17 @@ pub(crate) fn reflexive(alloc: Global, world: &World, term: &Term) -> Result<Seq
     Ok(of_goal(alloc, goal))
 }
 
+/// The term with another part at a path that stays in it.
+fn with_part(alloc: Global, term: &Term, path: &Path, part: &Term) -> Result<Term, Memory>
+    requires { IsSome (part_at path.now term.now) }
+    ensures { IfOk result (λ t. put_part path.now part.now term.now ≡ Some t) }
+{
+    let Some(changed) = put_at(alloc, term, path, part)? else {
+        unreachable!()
+    };
+    Ok(changed)
+}
+
 /// Replace: `eq` is an equation, whose right side comes for its left side at the path of the goal of `on`.
 pub(crate) fn replaced(
     alloc: Global,
@@ -49,34 +60,6 @@ pub(crate) fn replaced(
     let goal = with_part(alloc, &on.goal, path, to)?;
     let sequent = joined(alloc, eq, on, goal)?;
     Ok(sequent)
-}
-
-/// The term with another part at a path that stays in it.
-fn with_part(alloc: Global, term: &Term, path: &Path, part: &Term) -> Result<Term, Memory>
-    requires { IsSome (part_at path.now term.now) }
-    ensures { IfOk result (λ t. put_part path.now part.now term.now ≡ Some t) }
-{
-    let Some(changed) = put_at(alloc, term, path, part)? else {
-        unreachable!()
-    };
-    Ok(changed)
-}
-
-/// Unfold: the call equals its function's body at the arguments.
-#[tactic(auto, using(crate::proofs::Calls::calls))]
-pub(crate) fn unfolded(alloc: Global, world: &World, call: &Term) -> Result<Sequent, RuleError>
-    ensures { SaysSequent (unfolded world.now.functions call.now) result }
-{
-    if !fits(world, call) {
-        return Err(RuleError::Refused);
-    }
-    let Some((definition, args)) = called(world, call) else {
-        return Err(RuleError::Refused);
-    };
-    world.soundness();
-    let body = body_at(alloc, definition, args)?;
-    let goal = equation(alloc, call.share()?, body)?;
-    Ok(of_goal(alloc, goal))
 }
 
 /// The definition of the function that the term calls, and the call's arguments.
@@ -101,6 +84,23 @@ fn body_at(alloc: Global, definition: &Definition, args: &Terms) -> Result<Term,
 {
     let arguments = Subst::of_arguments(alloc, &definition.formals, args)?;
     substitute(alloc, &definition.body, &arguments)
+}
+
+/// Unfold: the call equals its function's body at the arguments.
+#[tactic(auto, using(crate::proofs::Calls::calls))]
+pub(crate) fn unfolded(alloc: Global, world: &World, call: &Term) -> Result<Sequent, RuleError>
+    ensures { SaysSequent (unfolded world.now.functions call.now) result }
+{
+    if !fits(world, call) {
+        return Err(RuleError::Refused);
+    }
+    let Some((definition, args)) = called(world, call) else {
+        return Err(RuleError::Refused);
+    };
+    world.soundness();
+    let body = body_at(alloc, definition, args)?;
+    let goal = equation(alloc, call.share()?, body)?;
+    Ok(of_goal(alloc, goal))
 }
 
 /// If true: an `if` whose test is the goal of `p` equals its second argument.

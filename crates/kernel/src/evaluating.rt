@@ -17,19 +17,6 @@ use std::alloc::Global;
 use terms::{Node, Sequent, Term};
 use worlds::World;
 
-/// Whether the term has no variables.
-#[cycle(variables)]
-#[tactic(auto, using(crate::proofs::Args::args))]
-fn is_ground(term: &Term) -> bool
-    ensures { result ≡ grounded term.now }
-{
-    match term.node() {
-        Node::Var(_) => false,
-        Node::Quote(_) => true,
-        Node::Call(_, args) => all_ground(args.as_slice()),
-    }
-}
-
 #[cycle(variables)]
 #[tactic(auto, using(crate::proofs::Args::args))]
 fn all_ground(terms: &[Term]) -> bool
@@ -43,18 +30,17 @@ fn all_ground(terms: &[Term]) -> bool
     true
 }
 
-/// Evaluate: a well-formed term without variables equals its value.
-pub(crate) fn computed(alloc: Global, world: &World, term: &Term) -> Result<Sequent, RuleError>
-    ensures says { SaysStep (computed world.now.functions term.now) (evaluation_code world.now.functions term.now) result }
-    ensures refused { IsErrOf result RuleError.Refused ↔ (can_evaluate world.now.functions term.now ≡ false) }
+/// Whether the term has no variables.
+#[cycle(variables)]
+#[tactic(auto, using(crate::proofs::Args::args))]
+fn is_ground(term: &Term) -> bool
+    ensures { result ≡ grounded term.now }
 {
-    if !fits(world, term) || !is_ground(term) {
-        return Err(RuleError::Refused);
+    match term.node() {
+        Node::Var(_) => false,
+        Node::Quote(_) => true,
+        Node::Call(_, args) => all_ground(args.as_slice()),
     }
-    let value = value_of(alloc, world, term)?;
-    let value = Term::quote(alloc, value)?;
-    let goal = equation(alloc, term.share()?, value)?;
-    Ok(of_goal(alloc, goal))
 }
 
 /// The value of a term, or the limit that its evaluation meets.
@@ -72,4 +58,18 @@ fn value_of(alloc: Global, world: &World, term: &Term) -> Result<Value, RuleErro
         Err(EvalError::TooLarge) => Err(RuleError::Limit(Code::EvalTooLarge)),
         Err(EvalError::Memory) => Err(RuleError::Memory),
     }
+}
+
+/// Evaluate: a well-formed term without variables equals its value.
+pub(crate) fn computed(alloc: Global, world: &World, term: &Term) -> Result<Sequent, RuleError>
+    ensures says { SaysStep (computed world.now.functions term.now) (evaluation_code world.now.functions term.now) result }
+    ensures refused { IsErrOf result RuleError.Refused ↔ (can_evaluate world.now.functions term.now ≡ false) }
+{
+    if !fits(world, term) || !is_ground(term) {
+        return Err(RuleError::Refused);
+    }
+    let value = value_of(alloc, world, term)?;
+    let value = Term::quote(alloc, value)?;
+    let goal = equation(alloc, term.share()?, value)?;
+    Ok(of_goal(alloc, goal))
 }

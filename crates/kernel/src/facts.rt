@@ -22,29 +22,6 @@ use std::alloc::Global;
 use terms::{Definition, FactName, Iso, Sequent, Term};
 use worlds::World;
 
-/// Theorem: a theorem of the world, an obligation of one of its definitions, or a condition of one of its isomorphisms.
-pub(crate) fn fact_of(alloc: Global, world: &World, fact: &FactName) -> Result<Sequent, RuleError>
-    ensures { SaysSequent (fact_of world.now fact.now) result }
-{
-    match fact {
-        FactName::Theorem(name) => theorem(alloc, world, name),
-        FactName::Measure(name, number) => obligation(alloc, world, name, *number),
-        FactName::Isomorphism(name, number) => iso_condition(alloc, world, name, *number),
-    }
-}
-
-/// The same name, with one more owner.
-pub(crate) fn shared(fact: &FactName) -> Result<FactName, Memory>
-    ensures { IfOk result (λ f. f ≡ fact.now) }
-{
-    let fact = match fact {
-        FactName::Theorem(name) => FactName::Theorem(name.share()?),
-        FactName::Measure(name, number) => FactName::Measure(name.share()?, *number),
-        FactName::Isomorphism(name, number) => FactName::Isomorphism(name.share()?, *number),
-    };
-    Ok(fact)
-}
-
 fn theorem(alloc: Global, world: &World, name: &Symbol) -> Result<Sequent, RuleError>
     ensures { SaysSequent (lookup world.now.theorems name.now) result }
 {
@@ -52,26 +29,6 @@ fn theorem(alloc: Global, world: &World, name: &Symbol) -> Result<Sequent, RuleE
         return Err(RuleError::Refused);
     };
     let sequent = sequent.copy(alloc)?;
-    Ok(sequent)
-}
-
-#[tactic(auto, using(crate::proofs::Owed::owed))]
-fn obligation(
-    alloc: Global,
-    world: &World,
-    name: &Symbol,
-    number: u32,
-) -> Result<Sequent, RuleError>
-    ensures { SaysSequent (then_with (find world.now.functions.defs name.now) (λ d. slice_get (obligations d) number)) result }
-{
-    let Some(definition) = world.find_definition(name) else {
-        return Err(RuleError::Refused);
-    };
-    if !has_obligation(definition, number) {
-        return Err(RuleError::Refused);
-    }
-    world.soundness();
-    let sequent = obligation_of(alloc, definition, number)?;
     Ok(sequent)
 }
 
@@ -94,22 +51,51 @@ fn obligation_of(alloc: Global, definition: &Definition, number: u32) -> Result<
     }
 }
 
-fn iso_condition(
+#[tactic(auto, using(crate::proofs::Owed::owed))]
+fn obligation(
     alloc: Global,
     world: &World,
     name: &Symbol,
     number: u32,
 ) -> Result<Sequent, RuleError>
-    ensures { SaysSequent (then_with (find_iso world.now.isos name.now) (λ i. item (iso_conditions i) number)) result }
+    ensures { SaysSequent (then_with (find world.now.functions.defs name.now) (λ d. slice_get (obligations d) number)) result }
 {
-    let Some(iso) = world.find_iso(name) else {
+    let Some(definition) = world.find_definition(name) else {
         return Err(RuleError::Refused);
     };
-    if number < 1 || 4 < number {
+    if !has_obligation(definition, number) {
         return Err(RuleError::Refused);
     }
-    let sequent = condition_of(alloc, iso, number)?;
+    world.soundness();
+    let sequent = obligation_of(alloc, definition, number)?;
     Ok(sequent)
+}
+
+fn call(alloc: Global, name: &Symbol, a: Term) -> Result<Term, Memory>
+    ensures { IfOk result (λ t. t ≡ Call1 name.now a) }
+{
+    let mut args = Seq::new(alloc);
+    args.push(a)?;
+    Term::call(alloc, name.share()?, args)
+}
+
+fn x(alloc: Global) -> Result<Term, Memory>
+    ensures { IfOk result (λ t. t ≡ Var (codes "X")) }
+{
+    Term::var(alloc, Symbol::named(alloc, "X")?)
+}
+
+/// The goal, where the predicate is true of x.
+fn over_x(alloc: Global, predicate: &Symbol, goal: Term) -> Result<Sequent, Memory>
+    ensures { IfOk result (λ s. s ≡ over_x predicate.now goal) }
+{
+    let mut hyps = Seq::new(alloc);
+    hyps.push(call(alloc, predicate, x(alloc)?)?)?;
+    Ok(Sequent {
+        universals: Seq::new(alloc),
+        hyps,
+        goal,
+    })
 }
 
 /// The condition of this number, from 1 to 4.
@@ -140,29 +126,43 @@ fn condition_of(alloc: Global, iso: &Iso, number: u32) -> Result<Sequent, Memory
     }
 }
 
-/// The goal, where the predicate is true of x.
-fn over_x(alloc: Global, predicate: &Symbol, goal: Term) -> Result<Sequent, Memory>
-    ensures { IfOk result (λ s. s ≡ over_x predicate.now goal) }
+fn iso_condition(
+    alloc: Global,
+    world: &World,
+    name: &Symbol,
+    number: u32,
+) -> Result<Sequent, RuleError>
+    ensures { SaysSequent (then_with (find_iso world.now.isos name.now) (λ i. item (iso_conditions i) number)) result }
 {
-    let mut hyps = Seq::new(alloc);
-    hyps.push(call(alloc, predicate, x(alloc)?)?)?;
-    Ok(Sequent {
-        universals: Seq::new(alloc),
-        hyps,
-        goal,
-    })
+    let Some(iso) = world.find_iso(name) else {
+        return Err(RuleError::Refused);
+    };
+    if number < 1 || 4 < number {
+        return Err(RuleError::Refused);
+    }
+    let sequent = condition_of(alloc, iso, number)?;
+    Ok(sequent)
 }
 
-fn call(alloc: Global, name: &Symbol, a: Term) -> Result<Term, Memory>
-    ensures { IfOk result (λ t. t ≡ Call1 name.now a) }
+/// Theorem: a theorem of the world, an obligation of one of its definitions, or a condition of one of its isomorphisms.
+pub(crate) fn fact_of(alloc: Global, world: &World, fact: &FactName) -> Result<Sequent, RuleError>
+    ensures { SaysSequent (fact_of world.now fact.now) result }
 {
-    let mut args = Seq::new(alloc);
-    args.push(a)?;
-    Term::call(alloc, name.share()?, args)
+    match fact {
+        FactName::Theorem(name) => theorem(alloc, world, name),
+        FactName::Measure(name, number) => obligation(alloc, world, name, *number),
+        FactName::Isomorphism(name, number) => iso_condition(alloc, world, name, *number),
+    }
 }
 
-fn x(alloc: Global) -> Result<Term, Memory>
-    ensures { IfOk result (λ t. t ≡ Var (codes "X")) }
+/// The same name, with one more owner.
+pub(crate) fn shared(fact: &FactName) -> Result<FactName, Memory>
+    ensures { IfOk result (λ f. f ≡ fact.now) }
 {
-    Term::var(alloc, Symbol::named(alloc, "X")?)
+    let fact = match fact {
+        FactName::Theorem(name) => FactName::Theorem(name.share()?),
+        FactName::Measure(name, number) => FactName::Measure(name.share()?, *number),
+        FactName::Isomorphism(name, number) => FactName::Isomorphism(name.share()?, *number),
+    };
+    Ok(fact)
 }

@@ -70,6 +70,67 @@ impl InductCase {
     }
 }
 
+/// Whether the sequent says that the measure is a natural number, from no hypothesis.
+#[tactic(auto, using(crate::proofs::Cases::forms))]
+fn says_natural(measure: &Term, natural: &Sequent) -> bool
+    ensures { result ≡ spec.says_natural measure.now natural.now }
+{
+    if natural.hyps.len() != 0 {
+        return false;
+    }
+    match natural_of(&natural.goal) {
+        None => false,
+        Some(term) => measure.same(term),
+    }
+}
+
+#[tactic(auto, using(crate::proofs::Cases::cases))]
+fn is_assumed(goal: &Term, cases: &[InductCase], hypothesis: &Term) -> bool
+    ensures { result ≡ list_any (λ c. same_tm (spec.assumption goal.now c) hypothesis.now) (cases_of cases.now) }
+{
+    for case in cases {
+        if case.assumes(goal, hypothesis) {
+            return true;
+        }
+    }
+    false
+}
+
+/// Whether each hypothesis is the induction hypothesis of a case.
+fn all_assumed(base: &Sequent, cases: &[InductCase]) -> bool
+    ensures { result ≡ spec.all_assumed base.now.goal (cases_of cases.now) base.now.hyps }
+{
+    base.hyps
+        .as_slice()
+        .iter()
+        .all(|hypothesis| is_assumed(&base.goal, cases, hypothesis))
+}
+
+/// Whether the measure falls in each case.
+#[tactic(auto, using(crate::proofs::Cases::cases))]
+fn all_fall(world: &World, measure: &Term, cases: &[InductCase]) -> bool
+    ensures { result ≡ spec.all_fall world.now.functions measure.now (cases_of cases.now) (sequents_of (falls_of cases.now)) }
+{
+    for case in cases {
+        if !case.is_smaller(world, measure) {
+            return false;
+        }
+    }
+    true
+}
+
+/// The universals, and those of the cases.
+#[tactic(auto, using(crate::proofs::Cases::cases))]
+fn with_universals(alloc: Global, universals: Terms, cases: &[InductCase]) -> Result<Terms, Memory>
+    ensures { IfOk result (λ us. us ≡ spec.with_universals universals (sequents_of (falls_of cases.now))) }
+{
+    let mut all = universals;
+    for case in cases {
+        all = join(alloc, &all, &case.falls.sequent().universals)?;
+    }
+    Ok(all)
+}
+
 /// Induction: `natural` says that the measure is a natural number, `base` has its goal from induction hypotheses
 /// alone, and in each case the measure falls.
 pub(crate) fn induced(
@@ -98,82 +159,20 @@ pub(crate) fn induced(
     })
 }
 
-/// Whether the sequent says that the measure is a natural number, from no hypothesis.
-#[tactic(auto, using(crate::proofs::Cases::forms))]
-fn says_natural(measure: &Term, natural: &Sequent) -> bool
-    ensures { result ≡ spec.says_natural measure.now natural.now }
+#[cycle(instance)]
+#[tactic(auto, using(crate::proofs::Cases::instances))]
+fn are_instances(terms: &[Term], patterns: &[Term], s: &Subst) -> bool
+    ensures { result ≡ same_tms (substitute_all (by_pairs s.now) (tms patterns.now)) (tms terms.now) }
 {
-    if natural.hyps.len() != 0 {
+    if terms.len() != patterns.len() {
         return false;
     }
-    match natural_of(&natural.goal) {
-        None => false,
-        Some(term) => measure.same(term),
-    }
-}
-
-/// Whether each hypothesis is the induction hypothesis of a case.
-fn all_assumed(base: &Sequent, cases: &[InductCase]) -> bool
-    ensures { result ≡ spec.all_assumed base.now.goal (cases_of cases.now) base.now.hyps }
-{
-    base.hyps
-        .as_slice()
-        .iter()
-        .all(|hypothesis| is_assumed(&base.goal, cases, hypothesis))
-}
-
-#[tactic(auto, using(crate::proofs::Cases::cases))]
-fn is_assumed(goal: &Term, cases: &[InductCase], hypothesis: &Term) -> bool
-    ensures { result ≡ list_any (λ c. same_tm (spec.assumption goal.now c) hypothesis.now) (cases_of cases.now) }
-{
-    for case in cases {
-        if case.assumes(goal, hypothesis) {
-            return true;
-        }
-    }
-    false
-}
-
-/// Whether the measure falls in each case.
-#[tactic(auto, using(crate::proofs::Cases::cases))]
-fn all_fall(world: &World, measure: &Term, cases: &[InductCase]) -> bool
-    ensures { result ≡ spec.all_fall world.now.functions measure.now (cases_of cases.now) (sequents_of (falls_of cases.now)) }
-{
-    for case in cases {
-        if !case.is_smaller(world, measure) {
+    for i in 0..terms.len() {
+        if !is_instance(&terms[i], &patterns[i], s) {
             return false;
         }
     }
     true
-}
-
-/// Whether the term is `(< m' m)`, where m is the measure and m' it under the substitution.
-#[tactic(auto, using(crate::proofs::Cases::forms))]
-fn is_less(term: &Term, measure: &Term, s: &Subst) -> bool
-    ensures { result ≡ same_tm (call2 (codes "<") (substitute (by_pairs s.now) measure.now) measure.now) term.now }
-{
-    match less_sides(term) {
-        None => false,
-        Some((left, right)) => is_instance(left, measure, s) && measure.same(right),
-    }
-}
-
-fn are_all(terms: &[Term], term: &Term) -> bool
-    ensures { result ≡ list_all (same_tm term.now) terms.now }
-{
-    terms.iter().all(|other| term.same(other))
-}
-
-/// The universals, and those of the cases.
-#[tactic(auto, using(crate::proofs::Cases::cases))]
-fn with_universals(alloc: Global, universals: Terms, cases: &[InductCase]) -> Result<Terms, Memory>
-    ensures { IfOk result (λ us. us ≡ spec.with_universals universals (sequents_of (falls_of cases.now))) }
-{
-    let mut all = universals;
-    for case in cases {
-        all = join(alloc, &all, &case.falls.sequent().universals)?;
-    }
-    Ok(all)
 }
 
 /// Whether the term is the pattern under the substitution. No term is made for that, so that being out of memory
@@ -198,20 +197,21 @@ fn is_instance(term: &Term, pattern: &Term, s: &Subst) -> bool
     }
 }
 
-#[cycle(instance)]
-#[tactic(auto, using(crate::proofs::Cases::instances))]
-fn are_instances(terms: &[Term], patterns: &[Term], s: &Subst) -> bool
-    ensures { result ≡ same_tms (substitute_all (by_pairs s.now) (tms patterns.now)) (tms terms.now) }
+/// Whether the term is `(< m' m)`, where m is the measure and m' it under the substitution.
+#[tactic(auto, using(crate::proofs::Cases::forms))]
+fn is_less(term: &Term, measure: &Term, s: &Subst) -> bool
+    ensures { result ≡ same_tm (call2 (codes "<") (substitute (by_pairs s.now) measure.now) measure.now) term.now }
 {
-    if terms.len() != patterns.len() {
-        return false;
+    match less_sides(term) {
+        None => false,
+        Some((left, right)) => is_instance(left, measure, s) && measure.same(right),
     }
-    for i in 0..terms.len() {
-        if !is_instance(&terms[i], &patterns[i], s) {
-            return false;
-        }
-    }
-    true
+}
+
+fn are_all(terms: &[Term], term: &Term) -> bool
+    ensures { result ≡ list_all (same_tm term.now) terms.now }
+{
+    terms.iter().all(|other| term.same(other))
 }
 
 /// The cases of a step, each with what is proved in it.

@@ -69,6 +69,39 @@ pub type Ruled = Result<Proved, RuleError>;
 
 /// The rules are those of docs/KERNEL.md.
 impl Proved {
+    pub(crate) fn concluded(
+        alloc: Global,
+        world: &World,
+        proof: Proof,
+        sequent: Sequent,
+    ) -> Result<Proved, Memory>
+        requires { concludes world.now proof ≡ Some sequent }
+        ensures { IfOk result (λ it. IsProvedBy it world.now proof) }
+    {
+        let sequent = Rc::new(alloc, sequent)?;
+        let world = world.share()?;
+        Ok(Proved {
+            world,
+            proof,
+            sequent,
+        })
+    }
+
+    /// What the step concludes, with its proof.
+    fn of(
+        alloc: Global,
+        world: &World,
+        step: Step,
+        subproofs: Seq<Proof>,
+        sequent: Sequent,
+    ) -> Result<Proved, Memory>
+        requires { concludes world.now (By step (trees subproofs)) ≡ Some sequent }
+        ensures { IfOk result (λ it. IsProvedBy it world.now (By step (trees subproofs))) }
+    {
+        let proof = Proof::new(alloc, step, subproofs)?;
+        Proved::concluded(alloc, world, proof, sequent)
+    }
+
     /// What a step concludes from the premises.
     pub fn by(alloc: Global, world: &World, step: Step, premises: &[Proved]) -> Ruled
         requires { AllIn world.now premises.now }
@@ -340,39 +373,6 @@ impl Proved {
         let subproofs = case_proofs(alloc, natural, base, cases)?;
         let proved = Proved::of(alloc, &natural.world, step, subproofs, sequent)?;
         Ok(proved)
-    }
-
-    /// What the step concludes, with its proof.
-    fn of(
-        alloc: Global,
-        world: &World,
-        step: Step,
-        subproofs: Seq<Proof>,
-        sequent: Sequent,
-    ) -> Result<Proved, Memory>
-        requires { concludes world.now (By step (trees subproofs)) ≡ Some sequent }
-        ensures { IfOk result (λ it. IsProvedBy it world.now (By step (trees subproofs))) }
-    {
-        let proof = Proof::new(alloc, step, subproofs)?;
-        Proved::concluded(alloc, world, proof, sequent)
-    }
-
-    pub(crate) fn concluded(
-        alloc: Global,
-        world: &World,
-        proof: Proof,
-        sequent: Sequent,
-    ) -> Result<Proved, Memory>
-        requires { concludes world.now proof ≡ Some sequent }
-        ensures { IfOk result (λ it. IsProvedBy it world.now proof) }
-    {
-        let sequent = Rc::new(alloc, sequent)?;
-        let world = world.share()?;
-        Ok(Proved {
-            world,
-            proof,
-            sequent,
-        })
     }
 
     pub fn sequent(&self) -> &Sequent

@@ -17,20 +17,6 @@ use std::alloc::Global;
 use terms::{Sequent, Term};
 use worlds::World;
 
-/// Ring: two arithmetic terms are equal that are the same polynomial.
-pub(crate) fn ringed(alloc: Global, world: &World, a: &Term, b: &Term) -> Result<Sequent, RuleError>
-    ensures { SaysStep (ringed world.now.functions a.now b.now) (ring_code a.now b.now) result }
-{
-    if !is_arithmetic(a) || !is_arithmetic(b) {
-        return Err(RuleError::Refused);
-    }
-    if !compared(alloc, a, b)? || !both_fit(world, a, b) {
-        return Err(RuleError::Refused);
-    }
-    let goal = equation(alloc, a.share()?, b.share()?)?;
-    Ok(of_goal(alloc, goal))
-}
-
 /// Whether two arithmetic terms are the same polynomial, or the limit that they pass.
 fn compared(alloc: Global, a: &Term, b: &Term) -> Result<bool, RuleError>
     requires left { arithmetic a.now ≡ true }
@@ -43,4 +29,18 @@ fn compared(alloc: Global, a: &Term, b: &Term) -> Result<bool, RuleError>
         Err(RingError::TooLarge) => Err(RuleError::Limit(Code::RingTooLarge)),
         Err(RingError::Memory) => Err(RuleError::Memory),
     }
+}
+
+/// Ring: two arithmetic terms are equal that are the same polynomial.
+pub(crate) fn ringed(alloc: Global, world: &World, a: &Term, b: &Term) -> Result<Sequent, RuleError>
+    ensures { SaysStep (ringed world.now.functions a.now b.now) (ring_code a.now b.now) result }
+{
+    if !is_arithmetic(a) || !is_arithmetic(b) {
+        return Err(RuleError::Refused);
+    }
+    if !compared(alloc, a, b)? || !both_fit(world, a, b) {
+        return Err(RuleError::Refused);
+    }
+    let goal = equation(alloc, a.share()?, b.share()?)?;
+    Ok(of_goal(alloc, goal))
 }

@@ -36,6 +36,26 @@ pub(crate) fn with_goal(alloc: Global, p: &Sequent, goal: Term) -> Result<Sequen
     })
 }
 
+fn has(terms: &[Term], term: &Term) -> bool
+    ensures { result ≡ list_any (same_tm term.now) terms.now }
+{
+    terms.iter().any(|other| term.same(other))
+}
+
+/// The first list, and what is new of the second.
+#[tactic(auto, using(crate::proofs::Args::lists))]
+pub(crate) fn join(alloc: Global, first: &Terms, second: &Terms) -> Result<Terms, Memory>
+    ensures { IfOk result (λ ts. ts ≡ join first.now second.now) }
+{
+    let mut all = first.copy(alloc)?;
+    for term in second.as_slice() {
+        if !has(all.as_slice(), term) {
+            all.push(term.share()?)?;
+        }
+    }
+    Ok(all)
+}
+
 /// A goal with the universals and the hypotheses of two sequents.
 pub(crate) fn joined(alloc: Global, p: &Sequent, q: &Sequent, goal: Term) -> Result<Sequent, Memory>
     ensures { IfOk result (λ s. s ≡ joined p.now q.now goal) }
@@ -47,6 +67,17 @@ pub(crate) fn joined(alloc: Global, p: &Sequent, q: &Sequent, goal: Term) -> Res
         hyps,
         goal,
     })
+}
+
+#[tactic(auto, using(crate::proofs::Args::lists))]
+fn all_substituted(alloc: Global, terms: &Terms, s: &Subst) -> Result<Terms, Memory>
+    ensures { IfOk result (λ ts. ts ≡ map (substituted (by_pairs s.now)) terms.now) }
+{
+    let mut instances = Seq::new(alloc);
+    for term in terms.as_slice() {
+        instances.push(substitute(alloc, term, s)?)?;
+    }
+    Ok(instances)
 }
 
 /// The hypotheses and the goal under a substitution.
@@ -64,15 +95,18 @@ pub(crate) fn instance_of(alloc: Global, p: &Sequent, s: &Subst) -> Result<Seque
     })
 }
 
+/// All terms of the list but this one.
 #[tactic(auto, using(crate::proofs::Args::lists))]
-fn all_substituted(alloc: Global, terms: &Terms, s: &Subst) -> Result<Terms, Memory>
-    ensures { IfOk result (λ ts. ts ≡ map (substituted (by_pairs s.now)) terms.now) }
+pub(crate) fn without(alloc: Global, terms: &Terms, other: &Term) -> Result<Terms, Memory>
+    ensures { IfOk result (λ ts. ts ≡ without terms.now other.now) }
 {
-    let mut instances = Seq::new(alloc);
+    let mut rest = Seq::new(alloc);
     for term in terms.as_slice() {
-        instances.push(substitute(alloc, term, s)?)?;
+        if !other.same(term) {
+            rest.push(term.share()?)?;
+        }
     }
-    Ok(instances)
+    Ok(rest)
 }
 
 /// The goal of both, from what they need beside the case and its negation.
@@ -95,38 +129,4 @@ pub(crate) fn of_cases(
         hyps,
         goal,
     })
-}
-
-/// The first list, and what is new of the second.
-#[tactic(auto, using(crate::proofs::Args::lists))]
-pub(crate) fn join(alloc: Global, first: &Terms, second: &Terms) -> Result<Terms, Memory>
-    ensures { IfOk result (λ ts. ts ≡ join first.now second.now) }
-{
-    let mut all = first.copy(alloc)?;
-    for term in second.as_slice() {
-        if !has(all.as_slice(), term) {
-            all.push(term.share()?)?;
-        }
-    }
-    Ok(all)
-}
-
-/// All terms of the list but this one.
-#[tactic(auto, using(crate::proofs::Args::lists))]
-pub(crate) fn without(alloc: Global, terms: &Terms, other: &Term) -> Result<Terms, Memory>
-    ensures { IfOk result (λ ts. ts ≡ without terms.now other.now) }
-{
-    let mut rest = Seq::new(alloc);
-    for term in terms.as_slice() {
-        if !other.same(term) {
-            rest.push(term.share()?)?;
-        }
-    }
-    Ok(rest)
-}
-
-fn has(terms: &[Term], term: &Term) -> bool
-    ensures { result ≡ list_any (same_tm term.now) terms.now }
-{
-    terms.iter().any(|other| term.same(other))
 }

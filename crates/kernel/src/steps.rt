@@ -15,19 +15,20 @@ use proof_objects::Step;
 use std::alloc::Global;
 use worlds::World;
 
-/// What a step concludes from the earlier steps of these numbers. Refused too where no earlier step has a number.
-pub fn next_step(alloc: Global, world: &World, done: &[Proved], step: Step, from: &[u32]) -> Ruled
-    requires { AllIn world.now done.now }
-    ensures world { IfOk result (λ it. it.world ≡ world.now) }
-    ensures ok { IfOk result (λ it. line_concludes world.now (sequents_of done.now) step from.now ≡ Some it.sequent) }
-    ensures refused { IsErrOf result RuleError.Refused → line_concludes world.now (sequents_of done.now) step from.now ≡ None }
-    ensures limits { IfLimit result (λ code. (line_concludes world.now (sequents_of done.now) step from.now ≡ None) × (code_from world.now step (items (sequents_of done.now) from.now) ≡ code)) }
+/// The earlier step of this number, with one more owner.
+fn earlier(done: &[Proved], number: u32) -> Result<Option<Proved>, Memory>
+    ensures { IfOk result (λ o. o ≡ item done.now number) }
 {
-    let Some(premises) = picked(alloc, world, done, from)? else {
-        return Err(RuleError::Refused);
-    };
-    all_conclude(world, premises.as_slice());
-    Proved::by(alloc, world, step, premises.as_slice())
+    if number == 0 {
+        return Ok(None);
+    }
+    match done.get(number as usize - 1) {
+        Some(premise) => {
+            let premise = premise.share()?;
+            Ok(Some(premise))
+        }
+        None => Ok(None),
+    }
 }
 
 /// The earlier steps of these numbers.
@@ -52,18 +53,17 @@ fn picked(
     Ok(Some(premises))
 }
 
-/// The earlier step of this number, with one more owner.
-fn earlier(done: &[Proved], number: u32) -> Result<Option<Proved>, Memory>
-    ensures { IfOk result (λ o. o ≡ item done.now number) }
+/// What a step concludes from the earlier steps of these numbers. Refused too where no earlier step has a number.
+pub fn next_step(alloc: Global, world: &World, done: &[Proved], step: Step, from: &[u32]) -> Ruled
+    requires { AllIn world.now done.now }
+    ensures world { IfOk result (λ it. it.world ≡ world.now) }
+    ensures ok { IfOk result (λ it. line_concludes world.now (sequents_of done.now) step from.now ≡ Some it.sequent) }
+    ensures refused { IsErrOf result RuleError.Refused → line_concludes world.now (sequents_of done.now) step from.now ≡ None }
+    ensures limits { IfLimit result (λ code. (line_concludes world.now (sequents_of done.now) step from.now ≡ None) × (code_from world.now step (items (sequents_of done.now) from.now) ≡ code)) }
 {
-    if number == 0 {
-        return Ok(None);
-    }
-    match done.get(number as usize - 1) {
-        Some(premise) => {
-            let premise = premise.share()?;
-            Ok(Some(premise))
-        }
-        None => Ok(None),
-    }
+    let Some(premises) = picked(alloc, world, done, from)? else {
+        return Err(RuleError::Refused);
+    };
+    all_conclude(world, premises.as_slice());
+    Proved::by(alloc, world, step, premises.as_slice())
 }

@@ -115,6 +115,20 @@ fn one(alloc: Global, term: Term) -> Result<Terms, Fail> {
     Ok(terms)
 }
 
+fn number(alloc: Global, value: i128) -> Result<Term, Fail> {
+    let number = Term::quote(alloc, Value::Int(value))?;
+    Ok(number)
+}
+
+fn at_argument(alloc: Global, proved: &Proved, number: u32) -> Result<Term, Fail> {
+    let path = Path::from_slice(alloc, &[number])?;
+    let Some(part) = at_path(&proved.sequent().goal, &path) else {
+        return Err("no such argument".into());
+    };
+    let part = part.share()?;
+    Ok(part)
+}
+
 #[test]
 fn chooses_branches(rt: HostRuntime) -> Result<(), Fail> {
     let alloc = rt.alloc();
@@ -129,15 +143,6 @@ fn chooses_branches(rt: HostRuntime) -> Result<(), Fail> {
     assert!(rt; at_argument(alloc, &second, 1)?.same(&call));
     assert!(rt; at_argument(alloc, &second, 2)?.same(&x(alloc)?));
     Ok(())
-}
-
-fn at_argument(alloc: Global, proved: &Proved, number: u32) -> Result<Term, Fail> {
-    let path = Path::from_slice(alloc, &[number])?;
-    let Some(part) = at_path(&proved.sequent().goal, &path) else {
-        return Err("no such argument".into());
-    };
-    let part = part.share()?;
-    Ok(part)
 }
 
 #[test]
@@ -193,11 +198,6 @@ fn takes_an_axiom(rt: HostRuntime) -> Result<(), Fail> {
     let checked = check(alloc, &world, car.proof())?;
     assert!(rt; checked.sequent().goal.same(&goal));
     Ok(())
-}
-
-fn number(alloc: Global, value: i128) -> Result<Term, Fail> {
-    let number = Term::quote(alloc, Value::Int(value))?;
-    Ok(number)
 }
 
 #[test]

@@ -96,6 +96,18 @@ impl Form {
         Form::List(items, None)
     }
 
+    /// Items, and an end that is neither a list nor NIL.
+    #[tactic(auto, using(crate::proofs::Proper::proper))]
+    fn ended(alloc: Global, items: Forms, end: Form) -> Result<Form, Memory>
+        ensures form { IfOk result (λ f. form_of f ≡ chain (forms_of items) (form_of end)) }
+        ensures proper { IfOk result (λ f. AreProper items → 0 < length (forms_of items) → IsProper end → IsEnd end → IsProper f) }
+    {
+        match Rc::new(alloc, end) {
+            Ok(end) => Ok(Form::List(items, Some(end))),
+            Err(_) => Err(Memory),
+        }
+    }
+
     /// Items, and the form after the point. A list there, or NIL, is joined to the items.
     #[tactic(auto, using(crate::proofs::Proper::proper))]
     pub fn dotted(alloc: Global, mut items: Forms, tail: Form) -> Result<Form, Memory>
@@ -115,18 +127,6 @@ impl Form {
                 }
             }
             Form::Int(_) | Form::Text(_) => Form::ended(alloc, items, tail),
-        }
-    }
-
-    /// Items, and an end that is neither a list nor NIL.
-    #[tactic(auto, using(crate::proofs::Proper::proper))]
-    fn ended(alloc: Global, items: Forms, end: Form) -> Result<Form, Memory>
-        ensures form { IfOk result (λ f. form_of f ≡ chain (forms_of items) (form_of end)) }
-        ensures proper { IfOk result (λ f. AreProper items → 0 < length (forms_of items) → IsProper end → IsEnd end → IsProper f) }
-    {
-        match Rc::new(alloc, end) {
-            Ok(end) => Ok(Form::List(items, Some(end))),
-            Err(_) => Err(Memory),
         }
     }
 

@@ -26,12 +26,6 @@ impl Model for Left {
 }
 
 impl Left {
-    pub(crate) fn new(bytes: Bytes) -> Left
-        ensures { result ≡ record { left = bytes; most = unbounded } }
-    {
-        Left::by_pieces(bytes, usize::MAX)
-    }
-
     pub(crate) fn by_pieces(bytes: Bytes, most: usize) -> Left
         requires { 0 < most }
         ensures { result ≡ record { left = bytes; most = most } }
@@ -41,6 +35,12 @@ impl Left {
             place: 0,
             most,
         }
+    }
+
+    pub(crate) fn new(bytes: Bytes) -> Left
+        ensures { result ≡ record { left = bytes; most = unbounded } }
+    {
+        Left::by_pieces(bytes, usize::MAX)
     }
 
     /// Moves the next bytes to the start of the buffer, and answers how many.

@@ -28,6 +28,18 @@ impl ProofError {
         }
     }
 
+    fn with_name(code: Code, name: &Symbol) -> ProofError
+        ensures { IsError code (Name name.now) result }
+    {
+        match name.share() {
+            Ok(name) => ProofError::Refused {
+                code,
+                detail: Detail::Name(name),
+            },
+            Err(Memory) => ProofError::Memory,
+        }
+    }
+
     /// The text has another shape than a proof's.
     pub(crate) fn bad_proof(alloc: Global) -> ProofError
         ensures { IsError BadForm (Name (codes ":PROOF")) result }
@@ -44,18 +56,6 @@ impl ProofError {
         ensures { IsError UnknownName (Name name.now) result }
     {
         ProofError::with_name(Code::UnknownName, name)
-    }
-
-    fn with_name(code: Code, name: &Symbol) -> ProofError
-        ensures { IsError code (Name name.now) result }
-    {
-        match name.share() {
-            Ok(name) => ProofError::Refused {
-                code,
-                detail: Detail::Name(name),
-            },
-            Err(Memory) => ProofError::Memory,
-        }
     }
 }
 

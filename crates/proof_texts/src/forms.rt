@@ -8,6 +8,18 @@ ghost use Rattle.proof_texts.specs.Items as spec;
 
 use lisp_data::{Form, Symbol, Symbols};
 
+/// The symbol of a form, if it is one (docs/SYNTAX.md, "Forms").
+#[tactic(auto, using(crate::proofs::ItemLemmas::no_symbols))]
+pub fn symbol(form: &Form) -> Option<&Symbol>
+    requires { IsProper form.now }
+    ensures { option_copied result ≡ spec.symbol_of (form_of form.now) }
+{
+    match form {
+        Form::Sym(symbol) => Some(symbol),
+        Form::Int(_) | Form::Text(_) | Form::List(_, _) => None,
+    }
+}
+
 /// The items of a list without a point; NIL is the list of none (docs/SYNTAX.md, "Forms").
 #[tactic(auto, using(crate::proofs::ItemLemmas::item_steps))]
 pub fn items(form: &Form) -> Option<&[Form]>
@@ -28,18 +40,6 @@ pub fn items(form: &Form) -> Option<&[Form]>
             Some(_) => None,
         },
         Form::Int(_) | Form::Text(_) => None,
-    }
-}
-
-/// The symbol of a form, if it is one (docs/SYNTAX.md, "Forms").
-#[tactic(auto, using(crate::proofs::ItemLemmas::no_symbols))]
-pub fn symbol(form: &Form) -> Option<&Symbol>
-    requires { IsProper form.now }
-    ensures { option_copied result ≡ spec.symbol_of (form_of form.now) }
-{
-    match form {
-        Form::Sym(symbol) => Some(symbol),
-        Form::Int(_) | Form::Text(_) | Form::List(_, _) => None,
     }
 }
 

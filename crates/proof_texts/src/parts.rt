@@ -37,16 +37,6 @@ pub(crate) fn list(alloc: Global, form: &Form) -> Result<&[Form], ProofError>
     }
 }
 
-/// A list of terms.
-pub(crate) fn read_terms(alloc: Global, world: &World, form: &Form) -> Result<Terms, ProofError>
-    requires { IsProper form.now }
-    ensures { Says (λ ts. ts) (spec.terms_of world.now (form_of form.now)) result }
-{
-    let forms = list(alloc, form)?;
-    let terms = each_term(alloc, world, forms)?;
-    Ok(terms)
-}
-
 #[tactic(auto, using(crate::proofs::PartLemmas::items))]
 fn each_term(alloc: Global, world: &World, forms: &[Form]) -> Result<Terms, ProofError>
     requires { AllProper forms.now }
@@ -57,6 +47,16 @@ fn each_term(alloc: Global, world: &World, forms: &[Form]) -> Result<Terms, Proo
         let term = read_term(alloc, world, form)?;
         terms.push(term)?;
     }
+    Ok(terms)
+}
+
+/// A list of terms.
+pub(crate) fn read_terms(alloc: Global, world: &World, form: &Form) -> Result<Terms, ProofError>
+    requires { IsProper form.now }
+    ensures { Says (λ ts. ts) (spec.terms_of world.now (form_of form.now)) result }
+{
+    let forms = list(alloc, form)?;
+    let terms = each_term(alloc, world, forms)?;
     Ok(terms)
 }
 
@@ -99,6 +99,17 @@ pub(crate) fn read_path(alloc: Global, form: &Form) -> Result<Path, ProofError>
     let forms = list(alloc, form)?;
     let path = each_number(alloc, forms)?;
     Ok(path)
+}
+
+/// A symbol that has to stand there.
+fn name(alloc: Global, form: &Form) -> Result<&Symbol, ProofError>
+    requires { IsProper form.now }
+    ensures { Says (λ name. name.now) (spec.name_of (form_of form.now)) result }
+{
+    match symbol(form) {
+        Some(name) => Ok(name),
+        None => Err(ProofError::bad_proof(alloc)),
+    }
 }
 
 /// A variable that has no term yet.
@@ -151,17 +162,6 @@ pub(crate) fn read_substitution(
     let forms = list(alloc, form)?;
     let s = pairs(alloc, world, forms)?;
     Ok(s)
-}
-
-/// A symbol that has to stand there.
-fn name(alloc: Global, form: &Form) -> Result<&Symbol, ProofError>
-    requires { IsProper form.now }
-    ensures { Says (λ name. name.now) (spec.name_of (form_of form.now)) result }
-{
-    match symbol(form) {
-        Some(name) => Ok(name),
-        None => Err(ProofError::bad_proof(alloc)),
-    }
 }
 
 fn known_theorem(world: &World, name: &Symbol) -> Result<Symbol, ProofError>

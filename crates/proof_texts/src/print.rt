@@ -91,6 +91,18 @@ fn value_form(alloc: Global, value: &Value) -> Result<Form, Memory>
     }
 }
 
+/// The items, and the forms of terms after them.
+#[cycle(terms)]
+#[tactic(auto, using(crate::proofs::PrintLemmas::terms))]
+fn with_terms(alloc: Global, mut items: Forms, terms: &[Term]) -> Result<Forms, Memory>
+    ensures { IfOk result (λ fs. forms_of fs ≡ forms_of items ++ map form_of_term terms.now) }
+{
+    for term in terms {
+        items.push(term_form(alloc, term)?)?;
+    }
+    Ok(items)
+}
+
 #[cycle(terms)]
 #[tactic(auto, using(crate::proofs::PrintLemmas::terms))]
 fn term_form(alloc: Global, term: &Term) -> Result<Form, Memory>
@@ -110,18 +122,6 @@ fn term_form(alloc: Global, term: &Term) -> Result<Form, Memory>
             Ok(Form::list(items))
         }
     }
-}
-
-/// The items, and the forms of terms after them.
-#[cycle(terms)]
-#[tactic(auto, using(crate::proofs::PrintLemmas::terms))]
-fn with_terms(alloc: Global, mut items: Forms, terms: &[Term]) -> Result<Forms, Memory>
-    ensures { IfOk result (λ fs. forms_of fs ≡ forms_of items ++ map form_of_term terms.now) }
-{
-    for term in terms {
-        items.push(term_form(alloc, term)?)?;
-    }
-    Ok(items)
 }
 
 #[tactic(auto, using(crate::proofs::PrintLemmas::lists))]
@@ -148,6 +148,13 @@ fn substitution_form(alloc: Global, s: &Subst) -> Result<Form, Memory>
         }
     }
     Ok(Form::list(items))
+}
+
+#[tactic(auto, using(crate::proofs::PrintLemmas::words))]
+fn word_of(alloc: Global, word: Word) -> Result<Form, Memory>
+    ensures { IfOk result (λ f. form_of f ≡ spec.word_form word) }
+{
+    word_form(alloc, word.text())
 }
 
 fn numbered_form(alloc: Global, word: Word, name: &Symbol, number: u32) -> Result<Form, Memory>
@@ -192,49 +199,16 @@ fn case_form(alloc: Global, case: &InductionCase, proof: Form) -> Result<Form, M
     three(alloc, test, s, proof)
 }
 
-#[tactic(auto, using(crate::proofs::PrintLemmas::words))]
-fn word_of(alloc: Global, word: Word) -> Result<Form, Memory>
-    ensures { IfOk result (λ f. form_of f ≡ spec.word_form word) }
-{
-    word_form(alloc, word.text())
-}
-
-/// A proof, as the form whose text is printed.
+/// Cases of an induction, each with its proof.
 #[cycle(proofs)]
-#[tactic(auto, using(crate::proofs::PrintLemmas::proofs))]
-fn proof_form(alloc: Global, proof: &Proof) -> Result<Form, Memory>
-    ensures { IfOk result (λ f. form_of f ≡ spec.form_of_proof proof.now) }
-{
-    let node = proof.node();
-    let word = word_for(&node.step);
-    let given = parts_of(alloc, &node.step)?;
-    let items = laid(alloc, word, given.as_slice(), node.subproofs.as_slice())?;
-    Ok(Form::list(items))
-}
-
-/// A word, and the parts after it in their places.
-#[cycle(proofs)]
-#[tactic(auto, using(crate::proofs::PrintLemmas::proofs))]
-fn laid(
-    alloc: Global,
-    word: Word,
-    mut given: &[Given<'_>],
-    mut proofs: &[Proof],
-) -> Result<Forms, Memory>
-    ensures { IfOk result (λ fs. forms_of fs ≡ spec.word_form word ∷ spec.laid (spec.kinds_of word) (map seen given.now) (map spec.form_of_proof proofs.now)) }
+#[tactic(auto, using(crate::proofs::PrintLemmas::cases))]
+fn cases_forms(alloc: Global, cases: &[InductionCase], proofs: &[Proof]) -> Result<Forms, Memory>
+    ensures { IfOk result (λ fs. forms_of fs ≡ spec.cases_forms cases.now (map spec.form_of_proof proofs.now)) }
 {
     let mut items = Forms::new(alloc);
-    items.push(word_of(alloc, word)?)?;
-    for kind in word.kinds() {
-        if kind.is_proof() {
-            if let [first, rest @ ..] = proofs {
-                items.push(proof_form(alloc, first)?)?;
-                proofs = rest;
-            }
-        } else if let [first, rest @ ..] = given {
-            items.push(part_form(alloc, *first, proofs)?)?;
-            given = rest;
-        }
+    for i in 0..cases.len().min(proofs.len()) {
+        let proof = proof_form(alloc, &proofs[i])?;
+        items.push(case_form(alloc, &cases[i], proof)?)?;
     }
     Ok(items)
 }
@@ -264,18 +238,44 @@ fn part_form(alloc: Global, given: Given<'_>, proofs: &[Proof]) -> Result<Form, 
     }
 }
 
-/// Cases of an induction, each with its proof.
+/// A word, and the parts after it in their places.
 #[cycle(proofs)]
-#[tactic(auto, using(crate::proofs::PrintLemmas::cases))]
-fn cases_forms(alloc: Global, cases: &[InductionCase], proofs: &[Proof]) -> Result<Forms, Memory>
-    ensures { IfOk result (λ fs. forms_of fs ≡ spec.cases_forms cases.now (map spec.form_of_proof proofs.now)) }
+#[tactic(auto, using(crate::proofs::PrintLemmas::proofs))]
+fn laid(
+    alloc: Global,
+    word: Word,
+    mut given: &[Given<'_>],
+    mut proofs: &[Proof],
+) -> Result<Forms, Memory>
+    ensures { IfOk result (λ fs. forms_of fs ≡ spec.word_form word ∷ spec.laid (spec.kinds_of word) (map seen given.now) (map spec.form_of_proof proofs.now)) }
 {
     let mut items = Forms::new(alloc);
-    for i in 0..cases.len().min(proofs.len()) {
-        let proof = proof_form(alloc, &proofs[i])?;
-        items.push(case_form(alloc, &cases[i], proof)?)?;
+    items.push(word_of(alloc, word)?)?;
+    for kind in word.kinds() {
+        if kind.is_proof() {
+            if let [first, rest @ ..] = proofs {
+                items.push(proof_form(alloc, first)?)?;
+                proofs = rest;
+            }
+        } else if let [first, rest @ ..] = given {
+            items.push(part_form(alloc, *first, proofs)?)?;
+            given = rest;
+        }
     }
     Ok(items)
+}
+
+/// A proof, as the form whose text is printed.
+#[cycle(proofs)]
+#[tactic(auto, using(crate::proofs::PrintLemmas::proofs))]
+fn proof_form(alloc: Global, proof: &Proof) -> Result<Form, Memory>
+    ensures { IfOk result (λ f. form_of f ≡ spec.form_of_proof proof.now) }
+{
+    let node = proof.node();
+    let word = word_for(&node.step);
+    let given = parts_of(alloc, &node.step)?;
+    let items = laid(alloc, word, given.as_slice(), node.subproofs.as_slice())?;
+    Ok(Form::list(items))
 }
 
 /// Writes the text of a proof at the end of a text (docs/SYNTAX.md, "Texts of proofs"). Where there is no memory the text is as before.

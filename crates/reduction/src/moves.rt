@@ -144,6 +144,14 @@ fn put_all(alloc: Global, hyps: &Terms, except: &Term, s: &Subst) -> Result<Term
     Ok(all)
 }
 
+/// One subgoal is left.
+fn one(hyps: Terms, goal: &Term) -> Result<Remains, Memory>
+    ensures { IfOk result (λ it. it ≡ Remains.One (spec.subgoal hyps goal.now)) }
+{
+    let goal = goal.share()?;
+    Ok(Remains::One(Subgoal { hyps, goal }))
+}
+
 /// What the step leaves of the subgoal.
 pub fn after(alloc: Global, step: &Move, subgoal: &Subgoal) -> Result<Remains, Memory>
     ensures { IfOk result (λ it. subgoals it ≡ spec.after step.now subgoal.now) }
@@ -175,12 +183,4 @@ pub fn after(alloc: Global, step: &Move, subgoal: &Subgoal) -> Result<Remains, M
             Ok(Remains::Two(yes, no))
         }
     }
-}
-
-/// One subgoal is left.
-fn one(hyps: Terms, goal: &Term) -> Result<Remains, Memory>
-    ensures { IfOk result (λ it. it ≡ Remains.One (spec.subgoal hyps goal.now)) }
-{
-    let goal = goal.share()?;
-    Ok(Remains::One(Subgoal { hyps, goal }))
 }

@@ -30,6 +30,16 @@ pub type Rules = Seq<Rule>;
 /// The substitution under which a pattern is a term.
 type Matched = Result<Option<Subst>, Memory>;
 
+/// Whether the variable has the term, where it has one.
+fn is_bound(s: &Subst, name: &Symbol, term: &Term) -> Option<bool>
+    ensures { result ≡ option_map (λ u. same_tm u term.now) (lookup s.now name.now) }
+{
+    match s.find(name) {
+        None => None,
+        Some(known) => Some(known.same(term)),
+    }
+}
+
 /// A new variable gets the term, and another has to have it.
 fn bound_to(name: &Symbol, term: &Term, s: Subst) -> Matched
     ensures { IfOk result (λ o. o ≡ spec.bound_to name.now term.now s (lookup s name.now)) }
@@ -45,14 +55,22 @@ fn bound_to(name: &Symbol, term: &Term, s: Subst) -> Matched
     }
 }
 
-/// Whether the variable has the term, where it has one.
-fn is_bound(s: &Subst, name: &Symbol, term: &Term) -> Option<bool>
-    ensures { result ≡ option_map (λ u. same_tm u term.now) (lookup s.now name.now) }
+#[cycle(matched)]
+#[tactic(auto, using(crate::proofs::Matching::matching))]
+fn matched_all(patterns: &[Term], terms: &[Term], s: Subst) -> Matched
+    ensures { IfOk result (λ o. o ≡ spec.matched_all (tms patterns.now) (tms terms.now) s) }
 {
-    match s.find(name) {
-        None => None,
-        Some(known) => Some(known.same(term)),
+    if patterns.len() != terms.len() {
+        return Ok(None);
     }
+    let mut bound = s;
+    for i in 0..patterns.len() {
+        match matched(&patterns[i], &terms[i], bound)? {
+            None => return Ok(None),
+            Some(more) => bound = more,
+        }
+    }
+    Ok(Some(bound))
 }
 
 /// The substitution, which begins with `s`, under which the pattern is the term.
@@ -86,24 +104,6 @@ fn matched(pattern: &Term, term: &Term, s: Subst) -> Matched
             }
         },
     }
-}
-
-#[cycle(matched)]
-#[tactic(auto, using(crate::proofs::Matching::matching))]
-fn matched_all(patterns: &[Term], terms: &[Term], s: Subst) -> Matched
-    ensures { IfOk result (λ o. o ≡ spec.matched_all (tms patterns.now) (tms terms.now) s) }
-{
-    if patterns.len() != terms.len() {
-        return Ok(None);
-    }
-    let mut bound = s;
-    for i in 0..patterns.len() {
-        match matched(&patterns[i], &terms[i], bound)? {
-            None => return Ok(None),
-            Some(more) => bound = more,
-        }
-    }
-    Ok(Some(bound))
 }
 
 /// Whether each is a hypothesis or a quoted value other than NIL, under the substitution.

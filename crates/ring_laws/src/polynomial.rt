@@ -78,6 +78,13 @@ impl Polynomial {
         Ok(())
     }
 
+    fn with(mut self, alloc: Global, other: &Polynomial) -> Result<Polynomial, Memory>
+        ensures { IfOk result (λ p. SameSum (held p.terms.entries) (held self.terms.entries ++ held other.now.terms.entries)) }
+    {
+        self.add_times(alloc, &[], &1, other)?;
+        Ok(self)
+    }
+
     /// The sum of the two.
     pub(crate) fn plus(self, alloc: Global, other: Polynomial) -> Result<Polynomial, Memory>
         ensures { IfOk result (λ p. SameSum (held p.terms.entries) (held self.terms.entries ++ held other.terms.entries)) }
@@ -87,13 +94,6 @@ impl Polynomial {
         } else {
             self.with(alloc, &other)
         }
-    }
-
-    fn with(mut self, alloc: Global, other: &Polynomial) -> Result<Polynomial, Memory>
-        ensures { IfOk result (λ p. SameSum (held p.terms.entries) (held self.terms.entries ++ held other.now.terms.entries)) }
-    {
-        self.add_times(alloc, &[], &1, other)?;
-        Ok(self)
     }
 
     pub(crate) fn negated(&self, alloc: Global) -> Result<Polynomial, Memory>
@@ -114,14 +114,6 @@ impl Polynomial {
         Ok(product)
     }
 
-    /// How many monomials have a coefficient other than 0.
-    pub(crate) fn size(&self) -> usize
-        ensures { result ≡ length (support bytes_eq (held self.now.terms.entries)) }
-    {
-        let _entries = self.terms.len();
-        self.count()
-    }
-
     fn count(&self) -> usize
         ensures { result ≡ length (filter (λ z. not (int_eq z (pos 0))) (values self.now.terms)) }
     {
@@ -134,11 +126,12 @@ impl Polynomial {
         count
     }
 
-    /// Whether the coefficients are equal.
-    pub(crate) fn same(&self, other: &Polynomial) -> bool
-        ensures { result ≡ coefficients_agree bytes_eq (held self.now.terms.entries) (held other.now.terms.entries) }
+    /// How many monomials have a coefficient other than 0.
+    pub(crate) fn size(&self) -> usize
+        ensures { result ≡ length (support bytes_eq (held self.now.terms.entries)) }
     {
-        self.is_within(other) && other.is_within(self)
+        let _entries = self.terms.len();
+        self.count()
     }
 
     /// Whether the other one has this one's coefficients at this one's monomials.
@@ -151,5 +144,12 @@ impl Polynomial {
             }
         }
         true
+    }
+
+    /// Whether the coefficients are equal.
+    pub(crate) fn same(&self, other: &Polynomial) -> bool
+        ensures { result ≡ coefficients_agree bytes_eq (held self.now.terms.entries) (held other.now.terms.entries) }
+    {
+        self.is_within(other) && other.is_within(self)
     }
 }

@@ -144,6 +144,20 @@ impl<'a> Binding<'a> {
     }
 }
 
+#[tactic(auto, using(crate::proofs::Bound::lists))]
+fn bindings_of<'a>(alloc: Global, items: &'a [Form]) -> Result<Seq<Binding<'a>>, TermError>
+    requires { AllProper items.now }
+    ensures says { SaysBindings (chain (map form_of items.now) nil_form) result }
+    ensures proper { IfOk result AreAllProper }
+{
+    let mut bindings = Seq::new(alloc);
+    for item in items {
+        let binding = Binding::of(alloc, item)?;
+        bindings.push(binding)?;
+    }
+    Ok(bindings)
+}
+
 /// The bindings of a list of them.
 #[tactic(auto, using(crate::proofs::Bound::shapes))]
 pub(crate) fn read_bindings<'a>(
@@ -158,20 +172,6 @@ pub(crate) fn read_bindings<'a>(
         None => bad_form(alloc),
         Some(items) => bindings_of(alloc, items),
     }
-}
-
-#[tactic(auto, using(crate::proofs::Bound::lists))]
-fn bindings_of<'a>(alloc: Global, items: &'a [Form]) -> Result<Seq<Binding<'a>>, TermError>
-    requires { AllProper items.now }
-    ensures says { SaysBindings (chain (map form_of items.now) nil_form) result }
-    ensures proper { IfOk result AreAllProper }
-{
-    let mut bindings = Seq::new(alloc);
-    for item in items {
-        let binding = Binding::of(alloc, item)?;
-        bindings.push(binding)?;
-    }
-    Ok(bindings)
 }
 
 fn binds(bindings: &[Binding<'_>], name: &Symbol) -> bool
@@ -230,6 +230,37 @@ fn image<'a>(images: &'a [(Symbol, Counted)], name: &Symbol) -> Option<&'a Count
     None
 }
 
+#[cycle(replace)]
+#[tactic(auto, using(crate::proofs::Replaced::replaced))]
+fn replace_all(
+    alloc: Global,
+    terms: &[Term],
+    images: &[(Symbol, Counted)],
+) -> Result<Seq<Counted>, TermError>
+    ensures { SaysOutcome (each (λ t. limited (substitute (by_pairs images.now) t)) terms.now) result }
+{
+    let mut parts = Seq::new(alloc);
+    for term in terms {
+        let part = replace(alloc, term, images)?;
+        parts.push(part)?;
+    }
+    Ok(parts)
+}
+
+#[cycle(replace)]
+#[tactic(auto, using(crate::proofs::Replaced::replaced))]
+fn replace_call(
+    alloc: Global,
+    name: &Symbol,
+    args: &[Term],
+    images: &[(Symbol, Counted)],
+) -> Result<Counted, TermError>
+    ensures { SaysOutcome (limited (substitute (by_pairs images.now) (Call name.now (tms args.now)))) result }
+{
+    let parts = replace_all(alloc, args, images)?;
+    Counted::call(alloc, name.share()?, parts.as_slice())
+}
+
 /// The term with these variables replaced, all at once, where it is within the limits.
 #[cycle(replace)]
 #[tactic(auto, using(crate::proofs::Replaced::replaced))]
@@ -251,37 +282,6 @@ pub(crate) fn replace(
         Node::Quote(value) => Ok(Counted::quote(alloc, value.share()?)?),
         Node::Call(name, args) => replace_call(alloc, name, args.as_slice(), images),
     }
-}
-
-#[cycle(replace)]
-#[tactic(auto, using(crate::proofs::Replaced::replaced))]
-fn replace_call(
-    alloc: Global,
-    name: &Symbol,
-    args: &[Term],
-    images: &[(Symbol, Counted)],
-) -> Result<Counted, TermError>
-    ensures { SaysOutcome (limited (substitute (by_pairs images.now) (Call name.now (tms args.now)))) result }
-{
-    let parts = replace_all(alloc, args, images)?;
-    Counted::call(alloc, name.share()?, parts.as_slice())
-}
-
-#[cycle(replace)]
-#[tactic(auto, using(crate::proofs::Replaced::replaced))]
-fn replace_all(
-    alloc: Global,
-    terms: &[Term],
-    images: &[(Symbol, Counted)],
-) -> Result<Seq<Counted>, TermError>
-    ensures { SaysOutcome (each (λ t. limited (substitute (by_pairs images.now) t)) terms.now) result }
-{
-    let mut parts = Seq::new(alloc);
-    for term in terms {
-        let part = replace(alloc, term, images)?;
-        parts.push(part)?;
-    }
-    Ok(parts)
 }
 
 /// The term with the variables of bindings replaced by these terms, all at once.

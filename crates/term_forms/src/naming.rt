@@ -5,13 +5,6 @@ ghost use Rattle.term_forms.specs.Names as spec;
 
 use lisp_data::Symbol;
 
-/// T, NIL, or a keyword.
-fn is_constant_name(name: &[u8]) -> bool
-    ensures { result ≡ spec.is_constant_name name.now }
-{
-    name == b"T".as_slice() || name == b"NIL".as_slice() || begins_with(b':', name)
-}
-
 fn begins_with(byte: u8, name: &[u8]) -> bool
     ensures { result ≡ spec.begins_with byte name.now }
 {
@@ -19,6 +12,13 @@ fn begins_with(byte: u8, name: &[u8]) -> bool
         [first, ..] => byte == *first,
         [] => false,
     }
+}
+
+/// T, NIL, or a keyword.
+fn is_constant_name(name: &[u8]) -> bool
+    ensures { result ≡ spec.is_constant_name name.now }
+{
+    name == b"T".as_slice() || name == b"NIL".as_slice() || begins_with(b':', name)
 }
 
 #[tactic(auto, using(crate::proofs::NameLemmas::last_byte))]

@@ -63,13 +63,6 @@ pub fn at_path<'a>(term: &'a Term, path: &Path) -> Option<&'a Term>
     Some(part)
 }
 
-/// The term with `part` at a path, or nothing where the path leaves the term.
-pub fn put_at(alloc: Global, term: &Term, path: &Path, part: &Term) -> Result<Option<Term>, Memory>
-    ensures { IfOk result (λ t. t ≡ put_part path.now part.now term.now) }
-{
-    put_from(alloc, term, path.as_slice(), part)
-}
-
 fn put_from(alloc: Global, term: &Term, path: &[u32], part: &Term) -> Result<Option<Term>, Memory>
     ensures { IfOk result (λ t. t ≡ put_part path.now part.now term.now) }
 {
@@ -89,4 +82,11 @@ fn put_from(alloc: Global, term: &Term, path: &[u32], part: &Term) -> Result<Opt
             },
         },
     }
+}
+
+/// The term with `part` at a path, or nothing where the path leaves the term.
+pub fn put_at(alloc: Global, term: &Term, path: &Path, part: &Term) -> Result<Option<Term>, Memory>
+    ensures { IfOk result (λ t. t ≡ put_part path.now part.now term.now) }
+{
+    put_from(alloc, term, path.as_slice(), part)
 }

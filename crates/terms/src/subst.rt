@@ -117,6 +117,18 @@ impl Subst {
     }
 }
 
+#[cycle(substitute)]
+#[tactic(auto, using(crate::proofs::Args::args))]
+fn substitute_all(alloc: Global, terms: &[Term], s: &Subst) -> Result<Terms, Memory>
+    ensures { IfOk result (λ ts. tms ts ≡ all_substituted (by_pairs s.now) (tms terms.now)) }
+{
+    let mut images = Seq::new(alloc);
+    for term in terms {
+        images.push(substitute(alloc, term, s)?)?;
+    }
+    Ok(images)
+}
+
 /// The term with the variables of `s` replaced, all at once.
 #[cycle(substitute)]
 #[tactic(auto, using(crate::proofs::Args::args))]
@@ -136,31 +148,21 @@ pub fn substitute(alloc: Global, term: &Term, s: &Subst) -> Result<Term, Memory>
     }
 }
 
-#[cycle(substitute)]
-#[tactic(auto, using(crate::proofs::Args::args))]
-fn substitute_all(alloc: Global, terms: &[Term], s: &Subst) -> Result<Terms, Memory>
-    ensures { IfOk result (λ ts. tms ts ≡ all_substituted (by_pairs s.now) (tms terms.now)) }
-{
-    let mut images = Seq::new(alloc);
-    for term in terms {
-        images.push(substitute(alloc, term, s)?)?;
-    }
-    Ok(images)
-}
-
-/// The variables of the term, each once, in the order in which they first stand.
-pub fn variables(alloc: Global, term: &Term) -> Result<Symbols, Memory>
-    ensures { IfOk result (λ xs. xs ≡ variables_of term.now) }
-{
-    let mut found = Seq::new(alloc);
-    collect(term, &mut found)?;
-    Ok(found)
-}
-
 fn has(found: &Symbols, name: &Symbol) -> bool
     ensures { result ≡ list_any (bytes_eq name.now) found.now }
 {
     found.as_slice().iter().any(|x| name.same(x))
+}
+
+#[cycle(variables)]
+#[tactic(auto, using(crate::proofs::Args::args))]
+fn collect_all(terms: &[Term], found: &mut Symbols) -> Result<(), Memory>
+    ensures { OnOk result (found.new ≡ with_variables_in (tms terms.now) found.old) }
+{
+    for term in terms {
+        collect(term, found)?;
+    }
+    Ok(())
 }
 
 #[cycle(variables)]
@@ -181,13 +183,11 @@ fn collect(term: &Term, found: &mut Symbols) -> Result<(), Memory>
     }
 }
 
-#[cycle(variables)]
-#[tactic(auto, using(crate::proofs::Args::args))]
-fn collect_all(terms: &[Term], found: &mut Symbols) -> Result<(), Memory>
-    ensures { OnOk result (found.new ≡ with_variables_in (tms terms.now) found.old) }
+/// The variables of the term, each once, in the order in which they first stand.
+pub fn variables(alloc: Global, term: &Term) -> Result<Symbols, Memory>
+    ensures { IfOk result (λ xs. xs ≡ variables_of term.now) }
 {
-    for term in terms {
-        collect(term, found)?;
-    }
-    Ok(())
+    let mut found = Seq::new(alloc);
+    collect(term, &mut found)?;
+    Ok(found)
 }
