@@ -1,0 +1,4 @@
+use Rattle.reduction_proofs.proofs.laws.hints_fit.Goals as goal
+
+pub returns : goal.returns
+returns c = ?

@@ -1,0 +1,4 @@
+use Rattle.reduction_proofs.proofs.laws.steps_prove.Goals as goal
+
+pub returns : goal.returns
+returns c = ?
