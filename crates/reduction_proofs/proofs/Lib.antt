@@ -1,0 +1,9 @@
+pub mod Members
+pub mod Deduction
+pub mod Shortcuts
+pub mod Sure
+pub mod Equations
+pub mod Finders
+pub mod Rules
+pub mod Moves
+pub mod Reduced

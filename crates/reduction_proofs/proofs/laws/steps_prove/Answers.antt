@@ -1,4 +1,5 @@
+use Rattle.reduction_proofs.proofs.Reduced.{steps_prove}
 use Rattle.reduction_proofs.proofs.laws.steps_prove.Goals as goal
 
 pub returns : goal.returns
-returns c = ?
+returns c = steps_prove
