@@ -7,3 +7,7 @@ pub mod Finders
 pub mod Rules
 pub mod Moves
 pub mod Reduced
+pub mod Recursive
+pub mod Bindings
+pub mod Induction
+pub mod Start
