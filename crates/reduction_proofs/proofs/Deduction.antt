@@ -1,5 +1,5 @@
 -- The rules, as they serve under hypotheses.
-use Rattle.std.proofs.Common.{◌≡◌, ℕ, true, List, [], ◌∷◌, map, codes, Option, Some, None, if◌then◌else◌, refl, ap, ◌∙◌}
+use Rattle.std.proofs.Common.{◌≡◌, ℕ, true, List, [], ◌∷◌, map, Some, None, if◌then◌else◌, refl, ap, ◌∙◌}
 use Rattle.std.specs.Option.{option_map}
 use Rattle.lisp_data.specs.Values.{Name, Val}
 use Rattle.terms.specs.Terms.{Tm, Quote, Call, Tms, substitute, by_args}
@@ -12,11 +12,7 @@ use Rattle.terms.specs.declared.definition.Definition.{Definition}
 use Rattle.terms.proofs.Lists.{join_to}
 use Rattle.terms.proofs.Same.{term_self}
 use Rattle.evaluator.specs.Counted.{evaluated}
-use Rattle.ring_laws.specs.Expressions.{is_arithmetic}
-use Rattle.ring_laws.specs.Limits.{excess_of}
-use Rattle.ring_laws.specs.Polynomials.{same_polynomial}
 use Rattle.kernel.specs.Axioms.{axiom_at}
-use Rattle.kernel.specs.Conclude.{conclude}
 use Rattle.kernel.specs.Equations.{body_at, called}
 use Rattle.kernel.specs.Evaluating.{is_ground, value_of}
 use Rattle.kernel.specs.Fitting.{fits, pairs_fit}

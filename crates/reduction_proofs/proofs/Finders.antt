@@ -1,8 +1,8 @@
 -- What the kinds find is equal, by its reason.
 use Rattle.std.proofs.Common.{◌≡◌, ◌==◌, bytes_eq, Bool, true, false, cond, not, ◌&&◌, ◌||◌, List, [], ◌∷◌, length, pos, codes, is_some, Option, Some, None, refl, sym, ap, ◌∙◌, subst}
 use Rattle.std.proofs.lemmas.Bool.{and_parts, and_from}
-use Rattle.lisp_data.specs.Values.{Name, Val, nil, same_val, Int}
-use Rattle.terms.specs.BuiltIn.{x, y, no, yes, quoted}
+use Rattle.lisp_data.specs.Values.{Name, Val, nil, same_val}
+use Rattle.terms.specs.BuiltIn.{x, y, yes, quoted}
 use Rattle.terms.specs.Definitions.{find}
 use Rattle.terms.specs.Formed.{HasBasics}
 use Rattle.terms.specs.Measures.{mentions, call1, call2, call3}
@@ -20,7 +20,7 @@ use Rattle.kernel.specs.Axioms.{axiom_at, on_truth, on_integers, integerp, plus}
 use Rattle.kernel.specs.Evaluating.{is_ground, all_ground, value_of as kernel_value_of}
 use Rattle.kernel.specs.Fitting.{takes, fits}
 use Rattle.kernel.specs.Ring.{are_same as ring_same}
-use Rattle.kernel.specs.Sequents.{equation, negation, implication, conditional, of_goal}
+use Rattle.kernel.specs.Sequents.{equation, negation, implication, of_goal}
 use Rattle.kernel.proofs.Inversions.{then_some}
 use Rattle.reduction.specs.declared.found.Found.{Found}
 use Rattle.reduction.specs.declared.found.Reason.TheVariants.{ByTrue, ByFalse, Refuted, Valued, Opened, Equated, SamePolynomial, Tested}

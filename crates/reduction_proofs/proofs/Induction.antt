@@ -1,5 +1,5 @@
 -- The start by induction.
-use Rattle.std.proofs.Common.{◌≡◌, ℕ, suc, ◌+◌, Bool, true, false, cond, ◌&&◌, ◌||◌, List, [], ◌∷◌, ◌++◌, map, length, slice_get, codes, Option, Some, None, refl, sym, ap, ◌∙◌, subst, arith}
+use Rattle.std.proofs.Common.{◌≡◌, ℕ, suc, ◌+◌, Bool, true, false, ◌||◌, List, [], ◌∷◌, ◌++◌, map, length, slice_get, codes, Some, None, refl, sym, ap, ◌∙◌, subst, arith}
 use Rattle.std.specs.List.{list_all, list_any}
 use Rattle.std.proofs.lemmas.Bool.{and_from, or_left, or_right}
 use Rattle.lisp_data.specs.Values.{Name}
@@ -7,32 +7,30 @@ use Rattle.terms.specs.BuiltIn.{no, yes}
 use Rattle.terms.specs.Definitions.{find}
 use Rattle.terms.specs.Formed.{HasBasics}
 use Rattle.terms.specs.Joins.{join}
-use Rattle.terms.specs.Measures.{RecursiveCall, obligations, is_natural, falls, call1, call2, recursive_calls}
+use Rattle.terms.specs.Measures.{RecursiveCall, obligations, is_natural, falls, call1, call2}
 use Rattle.terms.specs.Primitives.{primitive, primitives}
 use Rattle.terms.specs.Substitution.{Pairs, by_pairs}
 use Rattle.terms.specs.Terms.{Tm, Var, same_tm, tm_list, count, substitute, by_args}
 use Rattle.terms.specs.Worlds.{World, Distinct, Each}
 use Rattle.terms.specs.declared.definition.Definition.{Definition}
 use Rattle.terms.specs.declared.sequent.Sequent.{Sequent}
-use Rattle.terms.proofs.Lists.{each_to, each_join, each_of_map, join_to}
+use Rattle.terms.proofs.Lists.{each_join, each_of_map, join_to}
 use Rattle.terms.proofs.Models.{is_if}
 use Rattle.terms.proofs.Same.{same_term, term_self}
-use Rattle.proof_objects.specs.ProofTrees.{Trees, trees}
+use Rattle.proof_objects.specs.ProofTrees.{trees}
 use Rattle.proof_objects.specs.declared.step.InductionCase.{InductionCase}
 use Rattle.kernel.specs.Concludes.{all_concluded}
-use Rattle.kernel.specs.Fitting.{fits, fit_all, pairs_fit}
+use Rattle.kernel.specs.Fitting.{fit_all, pairs_fit}
 use Rattle.kernel.specs.Induction.{assumption, all_assumed, all_fall, with_universals}
 use Rattle.kernel.specs.Logic.{is_empty}
 use Rattle.kernel.specs.Sequents.{conditional, negation, implication}
 use Rattle.kernel.proofs.Joins.{map_to}
-use Rattle.reduction.specs.declared.moves.Subgoal.{Subgoal}
 use Rattle.reduction.specs.Hyps.{has}
-use Rattle.reduction.specs.Moves.{subgoal}
-use Rattle.hints.specs.Start.{conjunction, conjunction_from, folded, bind, images, hypothesis, as_variables, by_definition}
-use Rattle.reduction_proofs.specs.Derived.{first_part, second_part, forth, from_nil}
+use Rattle.hints.specs.Start.{conjunction, conjunction_from, folded, bind, images, hypothesis, as_variables}
+use Rattle.reduction_proofs.specs.Derived.{first_part, second_part}
 use Rattle.reduction_proofs.specs.Proving.{Within, Proves}
 use Rattle.reduction_proofs.specs.Start.{cut_parts, cut_conjunction, case_of, falls_by, unfolded, by_calls}
-use Rattle.reduction_proofs.specs.Trees.{Proof, Hyp, Substitute, IfTrue, IfFalse, Cut, ImpliesOut, Owed, Induct}
+use Rattle.reduction_proofs.specs.Trees.{Proof, Hyp, Substitute, IfTrue, IfFalse, ImpliesOut, Owed, Induct}
 use Rattle.reduction_proofs.proofs.Members.{Fit, within_first, within_more, each_self, each_more, each_left, each_right}
 use Rattle.reduction_proofs.proofs.Deduction.{wider, by_hyp, by_cut, by_case, by_implies_out, by_if_true, by_if_false}
 use Rattle.reduction_proofs.proofs.Shortcuts.{fits_not, by_forth, by_from_nil}

@@ -11,3 +11,4 @@ pub mod Recursive
 pub mod Bindings
 pub mod Induction
 pub mod Start
+pub mod Reading

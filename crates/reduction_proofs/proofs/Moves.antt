@@ -1,8 +1,7 @@
 -- What is true of each move that is found.
-use Rattle.std.proofs.Common.{◌≡◌, ℕ, Bool, true, false, not, List, [], ◌∷◌, codes, Option, Some, None, refl, sym, ap, ◌∙◌, subst}
+use Rattle.std.proofs.Common.{◌≡◌, Bool, true, false, not, List, [], ◌∷◌, codes, Option, Some, None, refl, sym, ap, ◌∙◌, subst}
 use Rattle.std.specs.Option.{option_map}
 use Rattle.lisp_data.specs.Values.{Name}
-use Rattle.terms.specs.Evaluation.{then_with}
 use Rattle.terms.specs.Formed.{HasBasics}
 use Rattle.terms.specs.Paths.{put_part, with_argument}
 use Rattle.terms.specs.Sound.{Sound}

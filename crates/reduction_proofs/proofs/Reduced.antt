@@ -1,10 +1,10 @@
 -- Where the reduction closes, the proofs of its steps conclude.
-use Rattle.std.proofs.Common.{◌≡◌, ℕ, zero, suc, Bool, true, false, cond, List, [], ◌∷◌, ◌++◌, map, slice_get, codes, Option, Some, None, refl, sym, ap, ◌∙◌, subst}
+use Rattle.std.proofs.Common.{◌≡◌, ℕ, zero, suc, Bool, true, false, cond, List, [], ◌∷◌, ◌++◌, map, slice_get, codes, Option, Some, None, refl, sym, ap, subst}
 use Rattle.terms.specs.Formed.{HasBasics}
 use Rattle.terms.specs.Joins.{with_term, join}
 use Rattle.terms.specs.Sound.{Sound}
 use Rattle.terms.specs.Terms.{same_tm, Tm, Var}
-use Rattle.terms.specs.Worlds.{World, Fits, Each}
+use Rattle.terms.specs.Worlds.{World, Each}
 use Rattle.terms.specs.declared.sequent.Sequent.{Sequent}
 use Rattle.terms.proofs.Later.{has_basics}
 use Rattle.terms.proofs.Lists.{each_to, each_join, join_to}
@@ -30,8 +30,8 @@ use Rattle.reduction_proofs.specs.Laws.{StepsProve}
 use Rattle.reduction_proofs.specs.Proving.{Within, Proves, AllProved, FitsSubgoal, IsRule}
 use Rattle.reduction_proofs.specs.Reasons.{equated, rewritten}
 use Rattle.reduction_proofs.specs.Trees.{Proof, Hyp, Cases, Cut, ImpliesIn}
-use Rattle.reduction_proofs.specs.WayBack.{closed_by, altered, before, proofs}
-use Rattle.reduction_proofs.proofs.Members.{Fit, each_fit, within_first, with_term_to, each_self, each_more, each_within, each_left, each_right}
+use Rattle.reduction_proofs.specs.WayBack.{altered, before, proofs}
+use Rattle.reduction_proofs.proofs.Members.{Fit, each_fit, within_first, with_term_to, each_self, each_more, each_left, each_right}
 use Rattle.reduction_proofs.proofs.Deduction.{wider, by_hyp, by_cut, by_case, by_implies_in}
 use Rattle.reduction_proofs.proofs.Shortcuts.{fits_not, fits_second, by_back, by_from_nil}
 use Rattle.reduction_proofs.proofs.Sure.{Sure, sure_some}

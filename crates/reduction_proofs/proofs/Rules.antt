@@ -1,12 +1,11 @@
 -- What rules give.
-use Rattle.std.proofs.Common.{◌≡◌, ℕ, Bool, true, false, cond, ◌&&◌, List, [], ◌∷◌, ◌++◌, bytes_eq, codes, Option, Some, None, refl, sym, ap, ◌∙◌, subst}
+use Rattle.std.proofs.Common.{◌≡◌, ℕ, Bool, true, false, cond, List, [], ◌∷◌, ◌++◌, bytes_eq, codes, Option, Some, None, refl, sym, ap, ◌∙◌, subst}
 use Rattle.std.specs.List.{list_all}
 use Rattle.std.proofs.lemmas.Bool.{and_parts, and_from}
 use Rattle.lisp_data.specs.Values.{Name}
 use Rattle.terms.specs.BuiltIn.{x, y, no, yes}
-use Rattle.terms.specs.Evaluation.{then_with}
 use Rattle.terms.specs.Formed.{HasBasics}
-use Rattle.terms.specs.Measures.{call1, call2}
+use Rattle.terms.specs.Measures.{call1}
 use Rattle.terms.specs.Primitives.{lookup}
 use Rattle.terms.specs.Sound.{Sound}
 use Rattle.terms.specs.Substitution.{Pairs, by_pairs, or_var}
@@ -34,11 +33,11 @@ use Rattle.reduction.specs.Hyps.{quoted_nil, quoted_t, has, proves}
 use Rattle.reduction.specs.Rules.{bound_to, matched, matched_all, all_proved, by_match, by_rule, by_rules}
 use Rattle.hints.specs.Facts.{citing, says, all_in, rule_from}
 use Rattle.hints.specs.Formulas.{parts, parts_in, needs, needs_in, remains, remains_in, is_plain_call, reading, covers, rule_of}
-use Rattle.reduction_proofs.specs.Derived.{back, is_nil_by, is_t_by, is_t_by_both}
+use Rattle.reduction_proofs.specs.Derived.{back, is_t_by}
 use Rattle.reduction_proofs.specs.Proving.{Within, Proves, IsRule}
-use Rattle.reduction_proofs.specs.Reasons.{decided, part_proved, part_in, detached, detached_in, read_as, as_equation, ruled}
+use Rattle.reduction_proofs.specs.Reasons.{decided, part_proved, part_in, detached, detached_in, as_equation, ruled}
 use Rattle.reduction_proofs.specs.Trees.{Proof, Substitute, IfTrue, ImpliesOut, Axiom}
-use Rattle.reduction_proofs.proofs.Members.{Fit, each_self}
+use Rattle.reduction_proofs.proofs.Members.{Fit}
 use Rattle.reduction_proofs.proofs.Deduction.{by_if_true, by_implies_out, by_an_axiom, by_instance}
 use Rattle.reduction_proofs.proofs.Shortcuts.{by_back, by_is_nil}
 use Rattle.reduction_proofs.proofs.Sure.{Sure, some_is, sure_or, sure_when, sure_only, sure_then, sure_some, sure_none, sure_option_map, sure_first_each}

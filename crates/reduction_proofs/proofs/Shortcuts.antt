@@ -1,11 +1,11 @@
 -- Proofs of several rules.
-use Rattle.std.proofs.Common.{◌≡◌, Bool, true, false, ◌&&◌, List, [], ◌∷◌, pos, codes, Some, None, refl, ap}
+use Rattle.std.proofs.Common.{◌≡◌, Bool, true, false, ◌&&◌, List, [], ◌∷◌, pos, codes, Some, None, refl}
 use Rattle.lisp_data.specs.Values.{Val, nil, same_val}
 use Rattle.terms.specs.BuiltIn.{no, quoted}
 use Rattle.terms.specs.Formed.{HasBasics}
 use Rattle.terms.specs.Measures.{call2}
 use Rattle.terms.specs.Primitives.{Two, primitive, primitives, is_nil, truth}
-use Rattle.terms.specs.Terms.{Tm, Var, Quote, Call}
+use Rattle.terms.specs.Terms.{Tm, Var, Quote}
 use Rattle.terms.specs.Worlds.{World}
 use Rattle.evaluator.specs.Counted.{evaluated, performed}
 use Rattle.kernel.specs.Axioms.{axiom_at, on_truth, on_order}

@@ -1,5 +1,5 @@
 -- The start of a reduction, with the steps after it.
-use Rattle.std.proofs.Common.{◌≡◌, ℕ, Bool, true, ◌&&◌, ◌||◌, is_some, List, [], ◌∷◌, ◌++◌, map, length, Option, Some, None, refl, sym, ap, ◌∙◌, subst}
+use Rattle.std.proofs.Common.{◌≡◌, ℕ, true, ◌||◌, is_some, List, [], ◌∷◌, ◌++◌, map, Option, Some, None, refl, sym, ap, ◌∙◌, subst}
 use Rattle.std.proofs.lemmas.Bool.{and_from}
 use Rattle.lisp_data.specs.Values.{Name}
 use Rattle.terms.specs.Definitions.{find}
@@ -8,14 +8,13 @@ use Rattle.terms.specs.Measures.{RecursiveCall, recursive_calls}
 use Rattle.terms.specs.Sound.{Sound}
 use Rattle.terms.specs.Substitution.{by_pairs}
 use Rattle.terms.specs.Terms.{Tm, same_tm, substitute}
-use Rattle.terms.specs.Worlds.{World, Fits, Distinct, Each}
+use Rattle.terms.specs.Worlds.{World, Distinct, Each}
 use Rattle.terms.specs.declared.definition.Definition.{Definition}
-use Rattle.terms.specs.declared.sequent.Sequent.{Sequent}
 use Rattle.terms.proofs.Later.{has_basics}
 use Rattle.terms.proofs.Lists.{join_to}
 use Rattle.terms.proofs.Same.{term_self}
 use Rattle.kernel.specs.Conclusion.{alone}
-use Rattle.kernel.specs.Fitting.{fits, pairs_fit}
+use Rattle.kernel.specs.Fitting.{pairs_fit}
 use Rattle.kernel.proofs.Inversions.{fits_decides, pairs_fit_each}
 use Rattle.plans.specs.Proving.{is_among, are_among}
 use Rattle.reduction.specs.declared.found.Source.{Source}
@@ -33,7 +32,7 @@ use Rattle.hints.specs.declared.hint.Use.{Use}
 use Rattle.hints.specs.Facts.{citing}
 use Rattle.hints.specs.Start.{folded, hypothesis, as_variables, by_defined, inducted, with_hyps, start, reduced}
 use Rattle.reduction_proofs.specs.Laws.{ReductionsProve}
-use Rattle.reduction_proofs.specs.Proving.{Within, Proves, AllProved, ProvesCondition, IsSaid, IsFact, IsUse, IsOver, IsScheme, FitsHints}
+use Rattle.reduction_proofs.specs.Proving.{Within, Proves, AllProved, IsSaid, IsFact, IsUse, IsOver, IsScheme, FitsHints}
 use Rattle.reduction_proofs.specs.Start.{fact_under, without_uses, by_measure, by_definition, before_induction, first_or, proof_of}
 use Rattle.reduction_proofs.specs.Trees.{Proof, Hyp, Substitute, Cut}
 use Rattle.reduction_proofs.specs.WayBack.{proofs}

@@ -1,5 +1,5 @@
 -- Proofs made of several rules.
-use Rattle.std.specs.Prelude.{ℕ, suc, pos, List, [], ◌∷◌, bytes_eq, codes, if◌then◌else◌}
+use Rattle.std.specs.Prelude.{ℕ, suc, pos, [], ◌∷◌, bytes_eq, codes, if◌then◌else◌}
 use Rattle.lisp_data.specs.Values.{Name}
 use Rattle.terms.specs.BuiltIn.{no, quoted}
 use Rattle.terms.specs.Measures.{call2}

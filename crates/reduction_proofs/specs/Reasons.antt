@@ -1,6 +1,6 @@
 -- Proofs of what is found: for each reason, that the part equals what it becomes.
-use Rattle.std.specs.Prelude.{List, [], ◌∷◌, bytes_eq, codes, Option, Some, None, if◌then◌else◌}
-use Rattle.std.specs.Option.{option_map, option_or, unwrap_or}
+use Rattle.std.specs.Prelude.{[], ◌∷◌, bytes_eq, codes, Option, Some, None, if◌then◌else◌}
+use Rattle.std.specs.Option.{option_map, unwrap_or}
 use Rattle.terms.specs.BuiltIn.{no}
 use Rattle.terms.specs.Measures.{call1}
 use Rattle.terms.specs.Substitution.{Pairs, by_pairs}

@@ -1,5 +1,5 @@
 -- Proofs by their last rule: a name for each rule that a reduction needs.
-use Rattle.std.specs.Prelude.{ℕ, List, [], ◌∷◌}
+use Rattle.std.specs.Prelude.{ℕ, List, ◌∷◌}
 use Rattle.lisp_data.specs.Values.{Name}
 use Rattle.terms.specs.Terms.{Tm}
 use Rattle.terms.specs.Substitution.{Pairs}

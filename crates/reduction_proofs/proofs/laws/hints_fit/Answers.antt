@@ -1,4 +1,5 @@
+use Rattle.reduction_proofs.proofs.Reading.{hints_fit}
 use Rattle.reduction_proofs.proofs.laws.hints_fit.Goals as goal
 
 pub returns : goal.returns
-returns c = ?
+returns c = hints_fit
