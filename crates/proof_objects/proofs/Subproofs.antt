@@ -1,5 +1,5 @@
 -- Lists of proofs that are to be let go.
-use Rattle.std.proofs.Common.{◌≡◌, ◌+◌, ◌*◌, ◌<◌, ◌≤◌, max, if◌then◌else◌, ℕ, Bool, true, false, List, [], ◌∷◌, ◌++◌, refl, sym, ap, ◌∙◌, subst, arith}
+use Rattle.std.proofs.Common.{◌≡◌, ◌+◌, ◌*◌, ◌<◌, ◌≤◌, max, if◌then◌else◌, ℕ, Bool, true, false, List, [], ◌∷◌, ◌++◌, ap, ◌∙◌, arith}
 use denote.Param.Weighed.{most}
 use Rattle.proof_objects.specs.ProofTrees.{ProofTree, By, trees, depth, depths, steps, steps_in}
 use Rattle.proof_objects.specs.view.ProofView.{tree_of}

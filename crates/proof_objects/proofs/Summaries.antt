@@ -1,17 +1,17 @@
 -- What is kept of the steps of lists of proofs.
-use Rattle.std.proofs.Common.{◌≡◌, ◌+◌, ◌*◌, ◌/◌, ◌%◌, ◌-◌, ◌^◌, ◌<◌, ◌≤◌, ◌==◌, ◌&&◌, ◌||◌, ℕ, zero, suc, Bool, true, false, min, max, List, [], ◌∷◌, ◌++◌, length, get_or, take, nat_lt, refl, sym, ap, ◌∙◌, subst, arith}
+use Rattle.std.proofs.Common.{◌≡◌, ◌+◌, ◌*◌, ◌/◌, ◌%◌, ◌^◌, ◌<◌, ◌≤◌, ◌==◌, ◌||◌, ℕ, Bool, true, false, max, List, [], ◌∷◌, ◌++◌, length, get_or, take, refl, sym, ap, ◌∙◌, subst, arith}
 use Rattle.std.specs.Int.{bit_at, w32}
 use Rattle.std.specs.Prelude.{bit_or, bit_and}
 use Rattle.std.proofs.lemmas.Bool.{eqb-true, eqb-false, ne_eqb}
 use Rattle.std.proofs.lemmas.List.{take_more, take_all}
-use Rattle.std.proofs.lemmas.Nat.Bits.{bit_at-zero, bit_at_or, bit_at_set_same, bit_at_set_other, shr_and_one}
+use Rattle.std.proofs.lemmas.Nat.Bits.{bit_at_or, bit_at_set_same, bit_at_set_other, shr_and_one}
 use Rattle.proof_objects.specs.RuleNames.{number}
 use Rattle.proof_objects.specs.StepRules.{rule_of, cites_measure}
 use Rattle.proof_objects.specs.declared.rule.Rule.{Rule}
 use Rattle.proof_objects.specs.declared.rule.Rule.TheVariants.{Hyp, Refl, Replace, Unfold, Eval, Substitute, IfTrue, IfFalse, Cases, Cut, Weaken, Contradict, Axiom, Ring, ImpliesIn, ImpliesOut, Universal, Discharge, Theorem, Instance, Induct}
 use Rattle.proof_objects.specs.declared.step.Step.{Step}
 use Rattle.proof_objects.specs.declared.summary.Summary.{Summary}
-use Rattle.proof_objects.specs.ProofTrees.{ProofTree, By, Trees, NoMore, Also, trees, steps, steps_in, any_step, any_step_in, has_rule, has_measure}
+use Rattle.proof_objects.specs.ProofTrees.{ProofTree, By, Trees, NoMore, Also, trees, steps, steps_in, any_step, any_step_in, has_rule}
 use Rattle.proof_objects.specs.view.Summaries.{fitted, bit, Sums, SumsIn, IsBoth}
 
 pub number_small : (r : Rule) → number r < 32

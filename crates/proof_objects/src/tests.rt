@@ -38,7 +38,7 @@ fn on(alloc: Global, proof: Proof) -> Result<Proof, Fail>
 fn takes_a_deep_proof(rt: HostRuntime) -> Result<(), Fail> {
     let alloc = rt.alloc();
     let mut proof = Proof::new(alloc, Step::Cut, Seq::new(alloc))?;
-    for _ in 0..100_000 {
+    for _ in 0..100_000u32 {
         proof = on(alloc, proof)?;
     }
     assert_eq!(rt; proof.steps(), 200_001);

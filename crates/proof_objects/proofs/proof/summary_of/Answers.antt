@@ -1,4 +1,4 @@
-use Rattle.std.proofs.Common.{length, get_or, subst, arith}
+use Rattle.std.proofs.Common.{subst, arith}
 use Rattle.proof_objects.specs.view.Summaries.{Sums}
 use Rattle.proof_objects.proofs.Summaries.{sums-next}
 use Rattle.proof_objects.proofs.proof.summary_of.Goals as goal
