@@ -1,25 +1,62 @@
--- Lists of subproofs, from a place on.
-use Rattle.std.proofs.Common.{◌≡◌, ◌+◌, ◌<◌, ◌||◌, ℕ, zero, suc, Bool, List, [], ◌∷◌, length, get_or, drop, refl, ap, arith}
-use native.Mathlib.Numerals.{unary_clauses}
-use Rattle.std.proofs.lemmas.List.{drop_all}
-use Rattle.proof_objects.specs.declared.step.Step.{Step}
-use Rattle.proof_objects.specs.ProofTrees.{ProofTree, Also, trees, depth, depths, steps, steps_in, any_step, any_step_in}
+-- Lists of proofs that are to be let go.
+use Rattle.std.proofs.Common.{◌≡◌, ◌+◌, ◌*◌, ◌<◌, ◌≤◌, max, if◌then◌else◌, ℕ, Bool, true, false, List, [], ◌∷◌, ◌++◌, ap, ◌∙◌, arith}
+use denote.Param.Weighed.{most}
+use Rattle.proof_objects.specs.ProofTrees.{ProofTree, By, trees, depth, depths, steps, steps_in}
+use Rattle.proof_objects.specs.view.ProofView.{tree_of}
+use Rattle.proof_objects.specs.view.Kept.{IsKept}
+use Rattle.proof_objects.specs.declared.proof.Shared.{Shared}
+use Rattle.proof_objects.specs.declared.proof.Proof.TheDeep.{size-Proof}
+use Rattle.proof_objects.proofs.Summaries.{steps-append}
 
--- the subproofs from the place i on: the one there, and the rest
-pub trees-drop : (ps : List ProofTree) (i : ℕ) (d : ProofTree) → i < length ps → trees (drop i ps) ≡ Also (get_or ps i d) (trees (drop (i + 1) ps))
-trees-drop [] i d h = absurd (omega arith)
-trees-drop (p ∷ ps) zero d h = refl
-trees-drop (p ∷ ps) (suc i) d h = simp unary_clauses (simp unary_clauses at (trees-drop ps i d (omega arith)))
+depths-append : (xs ys : List ProofTree) → depths (trees (xs ++ ys)) ≡ max (depths (trees xs)) (depths (trees ys))
+depths-append [] ys = omega arith
+depths-append (x ∷ xs) ys = omega (arith, depths-append xs ys)
 
-pub depth-get_or : (ps : List ProofTree) (i : ℕ) (d : ProofTree) → i < length ps → depth (get_or ps i d) < depths (trees ps)
-depth-get_or [] i d h = omega arith
-depth-get_or (p ∷ ps) zero d h = omega arith
-depth-get_or (p ∷ ps) (suc i) d h = omega (arith, depth-get_or ps i d (omega arith))
+-- the measure of a list that is let go
+sizes_within : (ps : List ProofTree) → most size-Proof ps ≤ 3 * depths (trees ps)
+sizes_within [] = omega arith
+sizes_within (p ∷ ps) = omega (arith, sizes_within ps, size p)
+  where
+    size : (p : ProofTree) → size-Proof p ≡ 3 * (depth p + 1)
+    size p = omega arith
 
-pub steps-next : (ps : List ProofTree) (i : ℕ) (d : ProofTree) → i < length ps → steps_in (trees (drop i ps)) ≡ steps (get_or ps i d) + steps_in (trees (drop (i + 1) ps))
-steps-next ps i d h = ap steps_in (trees-drop ps i d h)
+-- the last one is gone
+module _ (left ys : List ProofTree) (p : ProofTree) (popped : left ≡ ys ++ p ∷ []) where
+  pub gone_less : steps_in (trees ys) < steps_in (trees left)
+  gone_less = omega (arith, ap (λ ps. steps_in (trees ps)) popped, steps-append ys (p ∷ []), some p)
+    where
+      some : (p : ProofTree) → 0 < steps p
+      some (By s ps) = omega arith
 
-pub any-next : (is : Step → Bool) (ps : List ProofTree) (i : ℕ) (d : ProofTree) → i < length ps → any_step_in is (trees (drop i ps)) ≡ (any_step is (get_or ps i d) || any_step_in is (trees (drop (i + 1) ps)))
-any-next is ps i d h = ap (any_step_in is) (trees-drop ps i d h)
+  pub gone_within : (most : ℕ) → depths (trees left) ≤ most → depths (trees ys) ≤ most
+  gone_within most h = omega (arith, h, ap (λ ps. depths (trees ps)) popped, depths-append ys (p ∷ []))
 
-pub ruleset subproofs = (depth-get_or, steps-next, any-next, drop_all)
+  last_within : (most : ℕ) → depths (trees left) ≤ most → depth p < most
+  last_within most h = omega (arith, h, ap (λ ps. depths (trees ps)) popped, depths-append ys (p ∷ []))
+
+  -- and its subproofs stand in its place
+  module _ (s : Shared) (kept : IsKept s) (seen : tree_of s.node.value ≡ p) where
+    own_depth : depths (trees s.owners.items) ≡ depth p
+    own_depth = ap (λ ps. depths (trees ps)) kept.owners ∙ ap depth seen
+
+    own_steps : steps_in (trees s.owners.items) + 1 ≡ steps p
+    own_steps = ap (λ ps. steps_in (trees ps) + 1) kept.owners ∙ ap steps seen
+
+    pub node_within : (top : ℕ) → depths (trees left) ≤ top → depth (tree_of s.node.value) < top
+    node_within top h = omega (arith, last_within top h, ap depth seen)
+
+    pub owners_within : (top : ℕ) → depths (trees left) ≤ top → depths (trees s.owners.items) < top
+    owners_within top h = omega (arith, last_within top h, own_depth)
+
+    pub moved_less : (ok : Bool) (new : List ProofTree) → new ≡ (if ok then ys ++ s.owners.items else ys) → steps_in (trees new) < steps_in (trees left)
+    moved_less true new e = omega (arith, ap (λ ps. steps_in (trees ps)) e, steps-append ys s.owners.items, own_steps, ap (λ ps. steps_in (trees ps)) popped, steps-append ys (p ∷ []))
+    moved_less false new e = omega (arith, ap (λ ps. steps_in (trees ps)) e, gone_less)
+
+    pub moved_within : (ok : Bool) (new : List ProofTree) → new ≡ (if ok then ys ++ s.owners.items else ys) → (top : ℕ) → depths (trees left) ≤ top → depths (trees new) ≤ top
+    moved_within true new e top h = omega (arith, ap (λ ps. depths (trees ps)) e, depths-append ys s.owners.items, owners_within top h, gone_within top h)
+    moved_within false new e top h = omega (arith, ap (λ ps. depths (trees ps)) e, gone_within top h)
+
+    -- what was not moved is less deep
+    pub rest_within : (ok : Bool) (rest : List ProofTree) → rest ≡ (if ok then [] else s.owners.items) → (top : ℕ) → depths (trees left) ≤ top → most size-Proof rest < 3 * top
+    rest_within true rest e top h = omega (arith, ap (λ ps. most size-Proof ps) e, owners_within top h)
+    rest_within false rest e top h = omega (arith, ap (λ ps. most size-Proof ps) e, sizes_within s.owners.items, owners_within top h)

@@ -4,5 +4,4 @@ pub use Rattle.proof_objects.specs.view.ProofFalls
 pub mod RuleNames
 pub mod StepRules
 pub mod ProofTrees
-pub mod Kinds
 pub mod view

@@ -1,2 +1,4 @@
 pub mod ProofView
+pub mod Summaries
+pub mod Kept
 pub mod ProofFalls

@@ -4,7 +4,7 @@
 mod proof;
 mod rule;
 mod step;
-mod walks;
+mod summary;
 
 pub use proof::{Proof, ProofNode};
 pub use rule::Rule;
