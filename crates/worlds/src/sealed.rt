@@ -11,10 +11,12 @@ ghost use Rattle.worlds.specs.Events.{has_event, find_defthm};
 ghost use Rattle.worlds.specs.Lookups.{find_instance};
 ghost use Rattle.worlds.specs.Named.{Tells};
 ghost use Rattle.worlds.specs.Names.{reserved};
+ghost use Rattle.worlds.specs.Connectives.{name_of};
 
 use crate::block::Block;
 use crate::built_in::with_definitions;
 use crate::built_in_theorems::with_theorems;
+use crate::connectives::{Connective, Connectives};
 use crate::entries::Entries;
 use crate::named::Named;
 use crate::names::Words;
@@ -30,6 +32,7 @@ use terms::{FunPairs, Link};
 #[derive(Drop)]
 pub(crate) struct Sealed {
     words: Rc<Words>,
+    connectives: Rc<Connectives>,
     older: Rc<Block>,
     newer: Block,
     /// How many more times entries are sealed until the small block joins the large one.
@@ -46,10 +49,11 @@ impl Model for Sealed {
 
     ghost use Rattle.worlds.specs.view.EntryLists.{grown, empty_world};
     ghost use Rattle.worlds.specs.Words.{Knows};
+    ghost use Rattle.worlds.specs.Connectives.{AreNames};
 
     ghost view = { λ s. grown s.newer (grown s.older.value empty_world) };
 
-    ghost invariant = { λ s. Knows s.words.value };
+    ghost invariant = { λ s. Knows s.words.value × AreNames s.connectives.value };
 }
 
 /// How many entries a world seals at a time.
@@ -73,6 +77,7 @@ impl Sealed {
         let until_joined = turns(older.len());
         Ok(Sealed {
             words: Rc::new(alloc, Words::new(alloc)?)?,
+            connectives: Rc::new(alloc, Connectives::new(alloc)?)?,
             older: Rc::new(alloc, older)?,
             newer,
             until_joined,
@@ -84,10 +89,12 @@ impl Sealed {
         ensures { IfOk result (λ w. w ≡ grown recent.now self.now) }
     {
         let words = self.words.clone()?;
+        let connectives = self.connectives.clone()?;
         let newer = self.newer.with(alloc, recent)?;
         if self.until_joined > 1 {
             return Ok(Sealed {
                 words,
+                connectives,
                 older: self.older.clone()?,
                 newer,
                 until_joined: self.until_joined - 1,
@@ -97,6 +104,7 @@ impl Sealed {
         let until_joined = turns(older.len());
         Ok(Sealed {
             words,
+            connectives,
             older: Rc::new(alloc, older)?,
             newer: Block::new(alloc)?,
             until_joined,
@@ -115,6 +123,13 @@ impl Sealed {
         ensures { result ≡ is_in reserved name.now }
     {
         self.words.is_reserved(name)
+    }
+
+    /// The name of the function.
+    pub(crate) fn connective(&self, connective: Connective) -> &Symbol
+        ensures { result.now ≡ name_of connective }
+    {
+        self.connectives.name(connective)
     }
 
     /// What the name stands for, where it is no primitive's.

@@ -8,6 +8,6 @@ use Rattle.worlds.proofs.sealed.Sealed.initial.Goals as goal
 
 pub returns : goal.returns
 returns c =
-    grown-begun c.in_ok-newer.newer c.in_ok-new-3.field-0.value c.in_ok-entries-2.entries c.in_ok-newer.ensures (c.in_ok-new-3.ensures.ok ∙ c.in_ok-older.ensures)
+    grown-begun c.in_ok-newer.newer c.in_ok-new-5.field-0.value c.in_ok-entries-2.entries c.in_ok-newer.ensures (c.in_ok-new-5.ensures.ok ∙ c.in_ok-older.ensures)
     ∙ ap (λ es. grown es empty_world) (c.in_ok-entries-2.ensures ∙ ap (λ es. map Function initial_definitions ++ es) (c.in_ok-entries.ensures ∙ ap (λ es. map (λ t. Theorem t.0 t.1) initial_theorems ++ es) c.new.ensures))
     ∙ grown-defined initial_definitions initial_theorems
