@@ -22,10 +22,14 @@ pub use found::{At, Found, Reason, Source};
 pub use hyps::has;
 pub use kinds::How;
 pub use laws::{found_stands, leaves_are_stuck};
-pub use moves::{Closing, Move, Remains, Subgoal, after, put_new};
+pub use moves::{Closing, Move, Remains, Subgoal, after, put_new, without};
+pub use polynomials::side;
 pub use rules::{Rule, Rules};
 pub use run::{Made, Outcome, Task, reduce};
-pub use shapes::{is_quoted_nil, mentions, negation, of_one, of_three, of_two, quoted_nil};
+pub use shapes::{
+    is_quoted_nil, is_true_quote, mentions, negation, of_one, of_three, of_two, quoted_nil,
+};
+pub use steps::occurs;
 
 #[cfg(test)]
 mod tests;

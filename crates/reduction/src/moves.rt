@@ -92,7 +92,7 @@ pub fn put_new(hyps: &mut Terms, term: Term) -> Result<(), Memory>
 
 /// All terms but this one.
 #[tactic(auto, using(crate::proofs::Moving::lists))]
-fn without(alloc: Global, hyps: &Terms, term: &Term) -> Result<Terms, Memory>
+pub fn without(alloc: Global, hyps: &Terms, term: &Term) -> Result<Terms, Memory>
     ensures { IfOk result (λ ts. ts ≡ without hyps.now term.now) }
 {
     let mut left = Seq::new(alloc);

@@ -23,7 +23,7 @@ fn is_side(others: &Others<'_>, term: &Term) -> bool
 
 /// The term as an arithmetic one: an integer is the sum of 0 and it.
 #[tactic(auto, unfolding(lisp_data::specs::SymbolText::is_symbol_text, lisp_data::specs::Atoms::leaf, lisp_data::specs::Atoms::in_atom, lisp_data::specs::Atoms::is_delimiter, lisp_data::specs::Atoms::is_sign))]
-fn side(alloc: Global, term: &Term) -> Result<Term, Memory>
+pub fn side(alloc: Global, term: &Term) -> Result<Term, Memory>
     ensures value { IfOk result (λ t. t ≡ spec.side term.now) }
     ensures arithmetic { IfOk result (λ t. arithmetic t ≡ true) }
 {

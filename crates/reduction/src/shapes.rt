@@ -107,7 +107,7 @@ fn mentions_in(terms: &[Term], name: &str) -> bool
 }
 
 /// Whether a quoted value other than NIL.
-pub(crate) fn is_true_quote(term: &Term) -> bool
+pub fn is_true_quote(term: &Term) -> bool
     ensures { result ≡ is_true term.now }
 {
     match term.node() {

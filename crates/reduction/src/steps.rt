@@ -181,7 +181,7 @@ pub(crate) fn rewrite(alloc: Global, setting: &Setting<'_>, kind: Kind, subgoal:
 /// Whether the variable is in the term.
 #[cycle(occurs)]
 #[tactic(auto, using(crate::proofs::Args::args))]
-fn occurs(name: &Symbol, term: &Term) -> bool
+pub fn occurs(name: &Symbol, term: &Term) -> bool
     ensures { result ≡ spec.occurs name.now term.now }
 {
     match term.node() {
