@@ -210,6 +210,10 @@ no_hints W us = record {
   how = record { opened = []; expanded = []; cases = []; rules = built_in W us };
 }
 
--- the steps of a list, for a condition with these universals
+-- steps, for a condition with these universals
+abbrev pub hints_from : World → List Tm → List Datum → Outcome Hints
+hints_from W us ds = through (with_step W us) (no_hints W us) ds
+
+-- the steps of a list
 abbrev pub hints_of : World → List Tm → Datum → Outcome Hints
-hints_of W us d = and_then (or_bad (items_of d)) (through (with_step W us) (no_hints W us))
+hints_of W us d = and_then (or_bad (items_of d)) (hints_from W us)

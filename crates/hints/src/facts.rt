@@ -58,7 +58,7 @@ fn push(rules: &mut Rules, rule: Option<Rule>) -> Result<(), Memory>
 }
 
 /// What an axiom or a theorem says, with its proof.
-pub(crate) fn says(alloc: Global, world: &World, source: &Source) -> Result<Option<Proved>, Memory>
+pub fn says(alloc: Global, world: &World, source: &Source) -> Result<Option<Proved>, Memory>
     ensures { IfOk result (λ o. option_map (λ p. p.sequent) o ≡ spec.says world.now source.now) }
 {
     let told = match source {

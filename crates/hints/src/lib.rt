@@ -11,10 +11,10 @@ mod starting;
 mod steps;
 
 pub use errors::HintError;
-pub use facts::Facts;
+pub use facts::{Facts, says};
 pub use formulas::rule_of;
 pub use hint::{Fact, Hints, Scheme, Use, Uses};
-pub use starting::{reduce_by, start};
+pub use starting::{as_variables, bind, calls_of, conjunction, images, reduce_by, start};
 
 #[cfg(test)]
 mod tests;

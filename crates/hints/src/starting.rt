@@ -19,7 +19,7 @@ use worlds::World;
 
 /// `(if t1 (if t2 .. 'nil) 'nil)`, and `'t` of no terms.
 #[tactic(auto, using(crate::proofs::Inducting::conjunctions))]
-fn conjunction(alloc: Global, terms: &[Term]) -> Result<Term, Memory>
+pub fn conjunction(alloc: Global, terms: &[Term]) -> Result<Term, Memory>
     ensures { IfOk result (λ t. t ≡ spec.conjunction terms.now) }
 {
     let mut i = terms.len();
@@ -61,9 +61,9 @@ fn bind_one(s: &mut Subst, name: &Symbol, term: &Term) -> Result<(), Memory>
     Ok(())
 }
 
-/// Terms for names, one for one.
+/// Terms for names, one for one; the first of a name counts.
 #[tactic(auto, using(crate::proofs::Inducting::bindings))]
-fn bind(alloc: Global, names: &Symbols, terms: &[Term]) -> Result<Subst, Memory>
+pub fn bind(alloc: Global, names: &Symbols, terms: &[Term]) -> Result<Subst, Memory>
     ensures { IfOk result (λ s. s ≡ spec.bind [] names.now terms.now) }
 {
     let names = names.as_slice();
@@ -77,8 +77,9 @@ fn bind(alloc: Global, names: &Symbols, terms: &[Term]) -> Result<Subst, Memory>
     Ok(s)
 }
 
+/// The terms under a substitution.
 #[tactic(auto, using(crate::proofs::Inducting::lists))]
-fn images(alloc: Global, terms: &[Term], s: &Subst) -> Result<Terms, Memory>
+pub fn images(alloc: Global, terms: &[Term], s: &Subst) -> Result<Terms, Memory>
     ensures { IfOk result (λ ts. ts ≡ spec.images s.now terms.now) }
 {
     let mut images = Seq::new(alloc);
@@ -97,6 +98,15 @@ fn variables(alloc: Global, names: &Symbols) -> Result<Terms, Memory>
         terms.push(Term::var(alloc, name.share()?)?)?;
     }
     Ok(terms)
+}
+
+/// The variables of an induction for the formals of its definition.
+pub fn as_variables(alloc: Global, definition: &Definition, over: &Symbols) -> Result<Subst, Memory>
+    ensures { IfOk result (λ s. s ≡ spec.as_variables definition.now over.now) }
+{
+    let variables = variables(alloc, over)?;
+    let reading = bind(alloc, &definition.formals, variables.as_slice())?;
+    Ok(reading)
 }
 
 /// The induction hypothesis of a call.
@@ -139,7 +149,7 @@ fn hypotheses(
 }
 
 /// The recursive calls of a definition, of which none has the function in an argument.
-fn calls_of(alloc: Global, definition: &Definition) -> Result<RecursiveCalls, Memory>
+pub fn calls_of(alloc: Global, definition: &Definition) -> Result<RecursiveCalls, Memory>
     requires { is_nested definition.now.name definition.now.body ≡ false }
     ensures { IfOk result (λ cs. map call_of cs ≡ all_calls definition.now.name [] definition.now.body) }
 {
@@ -162,8 +172,7 @@ fn by_definition(
     ensures { IfOk result (λ s. s ≡ spec.by_definition over.now subgoal.now definition.now) }
 {
     let goal = folded(alloc, subgoal.hyps.as_slice(), &subgoal.goal)?;
-    let variables = variables(alloc, over)?;
-    let reading = bind(alloc, &definition.formals, variables.as_slice())?;
+    let reading = as_variables(alloc, definition, over)?;
     let calls = calls_of(alloc, definition)?;
     let hyps = hypotheses(alloc, &reading, over, &goal, calls.as_slice())?;
     Ok(Subgoal { hyps, goal })

@@ -136,10 +136,11 @@ impl Hints {
         self.add_word(alloc, facts, word, parts)
     }
 
+    /// What hint steps ask for, or the first refusal, from left to right.
     #[tactic(auto, using(crate::proofs::Through::through_forms))]
-    fn of_steps(alloc: Global, facts: &Facts<'_>, forms: &[Form]) -> Result<Hints, HintError>
+    pub fn of_steps(alloc: Global, facts: &Facts<'_>, forms: &[Form]) -> Result<Hints, HintError>
         requires { AllProper forms.now }
-        ensures { Says (λ h. h) (spec.through (spec.with_step facts.now.world.now facts.now.universals.now) (spec.no_hints facts.now.world.now facts.now.universals.now) (map form_of forms.now)) result }
+        ensures { Says (λ h. h) (spec.hints_from facts.now.world.now facts.now.universals.now (map form_of forms.now)) result }
     {
         let mut hints = Hints::none(alloc, facts)?;
         for form in forms {
@@ -148,7 +149,7 @@ impl Hints {
         Ok(hints)
     }
 
-    /// What a list of hint steps asks for, or its first refusal, from left to right.
+    /// What a list of hint steps asks for, or the first refusal.
     pub fn read(alloc: Global, facts: &Facts<'_>, form: &Form) -> Result<Hints, HintError>
         requires { IsProper form.now }
         ensures { Says (λ h. h) (spec.hints_of facts.now.world.now facts.now.universals.now (form_of form.now)) result }
