@@ -47,7 +47,7 @@ use Rattle.hints.specs.declared.hint.Use.{Use}
 use Rattle.hints.specs.Facts.{says, all_in, listed, rule_from, rules_from, rule_axioms, theorem_names, built_in, rule_by}
 use Rattle.hints.specs.Formulas.{remains, needs, reading, covers, rule_of}
 use Rattle.hints.specs.Refused.{or_bad}
-use Rattle.hints.specs.Steps.{through, any, term_of, name_of, defined_by, defined, with_opened, with_case, with_expanded, with_made, with_theorem, with_rule, with_variable, is_recursive, scheme_on, scheme_by, scheme_of, cited, number_in, numbered, by_number, assumed, by_name, cited_in, new_variable, pair_by, with_pair, pairs_of, use_under, use_by, with_scheme, with_use, with_cases, with_names, with_calls, with_rules, with_word, with_items, with_step, no_hints, hints_of}
+use Rattle.hints.specs.Steps.{through, any, term_of, name_of, defined_by, defined, with_opened, with_case, with_expanded, with_made, with_theorem, with_rule, with_variable, is_recursive, scheme_on, scheme_by, scheme_of, cited, number_in, numbered, by_number, assumed, by_name, cited_in, new_variable, pair_by, with_pair, pairs_of, use_under, use_by, with_scheme, with_use, with_cases, with_names, with_calls, with_rules, with_word, with_items, with_step, no_hints, hints_from}
 use Rattle.reduction_proofs.specs.Laws.{HintsFit}
 use Rattle.reduction_proofs.specs.Proving.{IsRule, IsFact, IsUse, IsOver, IsScheme, FitsHints}
 use Rattle.reduction_proofs.proofs.Sure.{Sure, some_is, sure_then, sure_when}
@@ -360,9 +360,9 @@ module _ (W : World) (sound : Sound W) (us : List Tm) where
   items_step h f (Some []) = gives_err Fitting _
   items_step h f (Some (w ∷ ds)) = word_step h f w ds
 
-  hints_gives : (d : Datum) → Gives Fitting (hints_of W us d)
-  hints_gives d = gives_then Fitting (or_bad (items_of d)) _ (λ ds e. gives_through Fitting (with_step W us) (λ h x f. items_step h f (items_of x)) (no_hints W us) ds
-      (record { induct = tt; uses = tt; rules = built_in_rules; cases = tt }))
+  hints_gives : (ds : List Datum) → Gives Fitting (hints_from W us ds)
+  hints_gives ds = gives_through Fitting (with_step W us) (λ h x f. items_step h f (items_of x)) (no_hints W us) ds
+      (record { induct = tt; uses = tt; rules = built_in_rules; cases = tt })
 
 pub hints_fit : HintsFit
-hints_fit W sound us d h e = (hints_gives W sound us d).so h e
+hints_fit W sound us ds h e = (hints_gives W sound us ds).so h e

@@ -13,14 +13,14 @@ use Rattle.reduction.specs.Moves.{subgoal}
 use Rattle.reduction.specs.Reduction.{reduce}
 use Rattle.hints.specs.declared.hint.Hints.{Hints}
 use Rattle.hints.specs.Start.{reduced}
-use Rattle.hints.specs.Steps.{hints_of}
+use Rattle.hints.specs.Steps.{hints_from}
 use Rattle.reduction_proofs.specs.Proving.{AllProved, ProvesCondition, FitsSubgoal, IsRule, FitsHints}
 use Rattle.reduction_proofs.specs.Start.{proof_of}
 use Rattle.reduction_proofs.specs.WayBack.{proofs}
 
 -- hints that are read fit
 abbrev pub HintsFit : Type 0
-HintsFit = (W : World) → Sound W → (us : List Tm) (d : Datum) (h : Hints) → hints_of W us d ≡ Ok h → FitsHints W us h
+HintsFit = (W : World) → Sound W → (us : List Tm) (ds : List Datum) (h : Hints) → hints_from W us ds ≡ Ok h → FitsHints W us h
 
 -- where all subgoals close, the way back has a proof of each
 abbrev pub StepsProve : Type 0
