@@ -8,6 +8,7 @@ ghost use Rattle.hints.specs.Start.{implication};
 use lisp_data::{Memory, Seq, Symbol, Value};
 use std::alloc::Global;
 use terms::Term;
+use worlds::{Connective, World};
 
 /// `'t`
 pub(crate) fn yes(alloc: Global) -> Result<Term, Memory>
@@ -26,10 +27,10 @@ pub(crate) fn no(alloc: Global) -> Result<Term, Memory>
 }
 
 /// `(implies a b)`
-pub(crate) fn implication(alloc: Global, a: Term, b: Term) -> Result<Term, Memory>
+pub(crate) fn implication(alloc: Global, world: &World, a: Term, b: Term) -> Result<Term, Memory>
     ensures { IfOk result (λ t. t ≡ implication a b) }
 {
-    let name = Symbol::named(alloc, "IMPLIES")?;
+    let name = world.connective(Connective::Implies)?;
     let mut args = Seq::new(alloc);
     args.push(a)?;
     args.push(b)?;
@@ -37,10 +38,16 @@ pub(crate) fn implication(alloc: Global, a: Term, b: Term) -> Result<Term, Memor
 }
 
 /// `(if a b c)`
-pub(crate) fn conditional(alloc: Global, a: Term, b: Term, c: Term) -> Result<Term, Memory>
+pub(crate) fn conditional(
+    alloc: Global,
+    world: &World,
+    a: Term,
+    b: Term,
+    c: Term,
+) -> Result<Term, Memory>
     ensures { IfOk result (λ t. t ≡ spec.if_else a b c) }
 {
-    let name = Symbol::named(alloc, "IF")?;
+    let name = world.connective(Connective::If)?;
     let mut args = Seq::new(alloc);
     args.push(a)?;
     args.push(b)?;

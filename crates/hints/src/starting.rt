@@ -19,7 +19,7 @@ use worlds::World;
 
 /// `(if t1 (if t2 .. 'nil) 'nil)`, and `'t` of no terms.
 #[tactic(auto, using(crate::proofs::Inducting::conjunctions))]
-pub fn conjunction(alloc: Global, terms: &[Term]) -> Result<Term, Memory>
+pub fn conjunction(alloc: Global, world: &World, terms: &[Term]) -> Result<Term, Memory>
     ensures { IfOk result (λ t. t ≡ spec.conjunction terms.now) }
 {
     let mut i = terms.len();
@@ -32,21 +32,21 @@ pub fn conjunction(alloc: Global, terms: &[Term]) -> Result<Term, Memory>
     'terms: while i > 0 {
         i -= 1;
         let no = no(alloc)?;
-        all = conditional(alloc, terms[i].share()?, all, no)?;
+        all = conditional(alloc, world, terms[i].share()?, all, no)?;
     }
     Ok(all)
 }
 
 /// `(implies h1 (implies h2 .. goal))`
 #[tactic(auto, using(crate::proofs::Inducting::foldings))]
-fn folded(alloc: Global, hyps: &[Term], goal: &Term) -> Result<Term, Memory>
+fn folded(alloc: Global, world: &World, hyps: &[Term], goal: &Term) -> Result<Term, Memory>
     ensures { IfOk result (λ t. t ≡ spec.folded hyps.now goal.now) }
 {
     let mut i = hyps.len();
     let mut all = goal.share()?;
     'hyps: while i > 0 {
         i -= 1;
-        all = implication(alloc, hyps[i].share()?, all)?;
+        all = implication(alloc, world, hyps[i].share()?, all)?;
     }
     Ok(all)
 }
@@ -113,6 +113,7 @@ pub fn as_variables(alloc: Global, definition: &Definition, over: &Symbols) -> R
 #[tactic(auto, using(crate::proofs::Inducting::lists))]
 fn hypothesis(
     alloc: Global,
+    world: &World,
     reading: &Subst,
     over: &Symbols,
     goal: &Term,
@@ -121,11 +122,11 @@ fn hypothesis(
     ensures { IfOk result (λ t. t ≡ spec.hypothesis reading.now over.now goal.now (call_of call.now)) }
 {
     let tests = images(alloc, call.tests.as_slice(), reading)?;
-    let ruled = conjunction(alloc, tests.as_slice())?;
+    let ruled = conjunction(alloc, world, tests.as_slice())?;
     let args = images(alloc, call.args.as_slice(), reading)?;
     let s = bind(alloc, over, args.as_slice())?;
     let image = substitute(alloc, goal, &s)?;
-    let hyp = implication(alloc, ruled, image)?;
+    let hyp = implication(alloc, world, ruled, image)?;
     Ok(hyp)
 }
 
@@ -133,6 +134,7 @@ fn hypothesis(
 #[tactic(auto, using(crate::proofs::Inducting::lists))]
 fn hypotheses(
     alloc: Global,
+    world: &World,
     reading: &Subst,
     over: &Symbols,
     goal: &Term,
@@ -142,7 +144,7 @@ fn hypotheses(
 {
     let mut hyps = Seq::new(alloc);
     for call in calls {
-        let hyp = hypothesis(alloc, reading, over, goal, call)?;
+        let hyp = hypothesis(alloc, world, reading, over, goal, call)?;
         put_new(&mut hyps, hyp)?;
     }
     Ok(hyps)
@@ -164,6 +166,7 @@ pub fn calls_of(alloc: Global, definition: &Definition) -> Result<RecursiveCalls
 /// The start of an induction by a definition.
 fn by_definition(
     alloc: Global,
+    world: &World,
     over: &Symbols,
     subgoal: &Subgoal,
     definition: &Definition,
@@ -171,10 +174,10 @@ fn by_definition(
     requires { is_nested definition.now.name definition.now.body ≡ false }
     ensures { IfOk result (λ s. s ≡ spec.by_definition over.now subgoal.now definition.now) }
 {
-    let goal = folded(alloc, subgoal.hyps.as_slice(), &subgoal.goal)?;
+    let goal = folded(alloc, world, subgoal.hyps.as_slice(), &subgoal.goal)?;
     let reading = as_variables(alloc, definition, over)?;
     let calls = calls_of(alloc, definition)?;
-    let hyps = hypotheses(alloc, &reading, over, &goal, calls.as_slice())?;
+    let hyps = hypotheses(alloc, world, &reading, over, &goal, calls.as_slice())?;
     Ok(Subgoal { hyps, goal })
 }
 
@@ -194,7 +197,7 @@ fn inducted(
             None => Ok(subgoal),
             Some(definition) => {
                 world.soundness();
-                let subgoal = by_definition(alloc, &scheme.over, &subgoal, definition)?;
+                let subgoal = by_definition(alloc, world, &scheme.over, &subgoal, definition)?;
                 Ok(subgoal)
             }
         },

@@ -21,7 +21,7 @@ fn is_axiom(number: u32) -> bool
 
 /// Axioms 1 to 7: T is true, NIL alone is false, and predicates give T or NIL.
 #[tactic(auto, unfolding(crate::specs::Axioms::on_truth))]
-fn on_truth(f: &Formulas, number: u32) -> Result<Term, Memory>
+fn on_truth(f: &Formulas<'_>, number: u32) -> Result<Term, Memory>
     ensures { IfOk result (λ t. t ≡ spec.on_truth number) }
 {
     match number {
@@ -37,7 +37,7 @@ fn on_truth(f: &Formulas, number: u32) -> Result<Term, Memory>
 
 /// Axioms 8 to 16: pairs and their parts, and that no value is of two kinds.
 #[tactic(auto, unfolding(crate::specs::Axioms::on_pairs))]
-fn on_pairs(f: &Formulas, number: u32) -> Result<Term, Memory>
+fn on_pairs(f: &Formulas<'_>, number: u32) -> Result<Term, Memory>
     ensures { IfOk result (λ t. t ≡ spec.on_pairs number) }
 {
     match number {
@@ -58,7 +58,7 @@ fn on_pairs(f: &Formulas, number: u32) -> Result<Term, Memory>
 
 /// Axioms 17 to 23: arithmetic gives integers, and takes as 0 what is none.
 #[tactic(auto, unfolding(crate::specs::Axioms::on_integers))]
-fn on_integers(f: &Formulas, number: u32) -> Result<Term, Memory>
+fn on_integers(f: &Formulas<'_>, number: u32) -> Result<Term, Memory>
     ensures { IfOk result (λ t. t ≡ spec.on_integers number) }
 {
     match number {
@@ -86,7 +86,7 @@ fn on_integers(f: &Formulas, number: u32) -> Result<Term, Memory>
 }
 
 /// Neither of two numbers is less than the other: they are the same.
-fn same_numbers(f: &Formulas) -> Result<Term, Memory>
+fn same_numbers(f: &Formulas<'_>) -> Result<Term, Memory>
     ensures { IfOk result (λ t. t ≡ spec.same_numbers) }
 {
     let first = f.plus(f.number(0)?, f.x()?)?;
@@ -97,7 +97,7 @@ fn same_numbers(f: &Formulas) -> Result<Term, Memory>
 }
 
 /// The product of two positive numbers is positive.
-fn positive_products(f: &Formulas) -> Result<Term, Memory>
+fn positive_products(f: &Formulas<'_>) -> Result<Term, Memory>
     ensures { IfOk result (λ t. t ≡ spec.positive_products) }
 {
     let product = f.times(f.x()?, f.y()?)?;
@@ -108,7 +108,7 @@ fn positive_products(f: &Formulas) -> Result<Term, Memory>
 
 /// Axioms 24 to 31: the order of numbers, with sums and products.
 #[tactic(auto, unfolding(crate::specs::Axioms::on_order))]
-fn on_order(f: &Formulas, number: u32) -> Result<Term, Memory>
+fn on_order(f: &Formulas<'_>, number: u32) -> Result<Term, Memory>
     ensures { IfOk result (λ t. t ≡ spec.on_order number) }
 {
     match number {
@@ -140,7 +140,7 @@ fn on_order(f: &Formulas, number: u32) -> Result<Term, Memory>
 
 /// Axioms 32 to 35: the count of a pair, of an integer and of a symbol is a natural number.
 #[tactic(auto, unfolding(crate::specs::Axioms::on_counts))]
-fn on_counts(f: &Formulas, number: u32) -> Result<Term, Memory>
+fn on_counts(f: &Formulas<'_>, number: u32) -> Result<Term, Memory>
     ensures { IfOk result (λ t. t ≡ spec.on_counts number) }
 {
     match number {
@@ -160,11 +160,11 @@ fn on_counts(f: &Formulas, number: u32) -> Result<Term, Memory>
 }
 
 #[tactic(auto, unfolding(crate::specs::Axioms::axiom_at))]
-fn axiom_at(alloc: Global, number: u32) -> Result<Term, Memory>
+fn axiom_at(alloc: Global, world: &World, number: u32) -> Result<Term, Memory>
     requires { IsSome (spec.axiom_at number) }
     ensures { IfOk result (λ t. spec.axiom_at number ≡ Some t) }
 {
-    let formulas = Formulas::new(alloc);
+    let formulas = Formulas::new(alloc, world);
     if number <= 7 {
         on_truth(&formulas, number)
     } else if number <= 16 {
@@ -190,7 +190,7 @@ pub(crate) fn axiom_instance(
     if !is_axiom(number) || !pairs_fit(world, s) {
         return Err(RuleError::Refused);
     }
-    let axiom = axiom_at(alloc, number)?;
+    let axiom = axiom_at(alloc, world, number)?;
     let goal = substitute(alloc, &axiom, s)?;
     Ok(of_goal(alloc, goal))
 }

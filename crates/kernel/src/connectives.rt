@@ -1,23 +1,38 @@
 //! Equations, negations, implications and conditionals, and what they are made of.
-#![tactic(auto, unfolding(lisp_data::specs::SymbolText::is_symbol_text, lisp_data::specs::Atoms::leaf, lisp_data::specs::Atoms::in_atom, lisp_data::specs::Atoms::is_delimiter, lisp_data::specs::Atoms::is_sign))]
 
-ghost use Rattle.std.specs.Prelude.{◌≡◌, true, IfOk, codes};
+ghost use Rattle.std.specs.Prelude.{◌≡◌, IfOk, codes};
 ghost use Rattle.std.specs.Option.{option_map, option_copied};
-ghost use Rattle.lisp_data.specs.SymbolText.{is_symbol_text};
 ghost use Rattle.terms.specs.Terms.{tms};
-ghost use Rattle.terms.specs.Measures.{call2 as Call2};
+ghost use Rattle.terms.specs.Measures.{call1 as Call1, call2 as Call2};
+ghost use Rattle.kernel.specs.Axioms.{natp, less};
 ghost use Rattle.kernel.specs.Sequents.{equation, negation, implication, conditional, args_of, one_of, negated_of, sides_of};
 ghost use Rattle.terms.specs.Evaluation.{then_with};
+ghost use Rattle.worlds.specs.Connectives.{name_of};
 
-use lisp_data::{Memory, Seq, Symbol};
+use lisp_data::{Memory, Seq};
 use std::alloc::Global;
 use terms::{Node, Term, Terms};
+use worlds::{Connective, World};
 
-fn call2(alloc: Global, name: &str, a: Term, b: Term) -> Result<Term, Memory>
-    requires { is_symbol_text name.now ≡ true }
-    ensures { IfOk result (λ t. t ≡ Call2 name.now a b) }
+fn call1(alloc: Global, world: &World, function: Connective, a: Term) -> Result<Term, Memory>
+    ensures { IfOk result (λ t. t ≡ Call1 (name_of function) a) }
 {
-    let name = Symbol::named(alloc, name)?;
+    let name = world.connective(function)?;
+    let mut args = Seq::new(alloc);
+    args.push(a)?;
+    Term::call(alloc, name, args)
+}
+
+fn call2(
+    alloc: Global,
+    world: &World,
+    function: Connective,
+    a: Term,
+    b: Term,
+) -> Result<Term, Memory>
+    ensures { IfOk result (λ t. t ≡ Call2 (name_of function) a b) }
+{
+    let name = world.connective(function)?;
     let mut args = Seq::new(alloc);
     args.push(a)?;
     args.push(b)?;
@@ -25,39 +40,56 @@ fn call2(alloc: Global, name: &str, a: Term, b: Term) -> Result<Term, Memory>
 }
 
 /// `(equal a b)`
-pub(crate) fn equation(alloc: Global, a: Term, b: Term) -> Result<Term, Memory>
+pub(crate) fn equation(alloc: Global, world: &World, a: Term, b: Term) -> Result<Term, Memory>
     ensures { IfOk result (λ t. t ≡ equation a b) }
 {
-    call2(alloc, "EQUAL", a, b)
+    call2(alloc, world, Connective::Equal, a, b)
 }
 
 /// `(implies a b)`
-pub(crate) fn implication(alloc: Global, a: Term, b: Term) -> Result<Term, Memory>
+pub(crate) fn implication(alloc: Global, world: &World, a: Term, b: Term) -> Result<Term, Memory>
     ensures { IfOk result (λ t. t ≡ implication a b) }
 {
-    call2(alloc, "IMPLIES", a, b)
+    call2(alloc, world, Connective::Implies, a, b)
 }
 
 /// `(not a)`
-pub(crate) fn negation(alloc: Global, a: Term) -> Result<Term, Memory>
+pub(crate) fn negation(alloc: Global, world: &World, a: Term) -> Result<Term, Memory>
     ensures { IfOk result (λ t. t ≡ negation a) }
 {
-    let name = Symbol::named(alloc, "NOT")?;
-    let mut args = Seq::new(alloc);
-    args.push(a)?;
-    Term::call(alloc, name, args)
+    call1(alloc, world, Connective::Not, a)
 }
 
 /// `(if a b c)`
-pub(crate) fn conditional(alloc: Global, a: Term, b: Term, c: Term) -> Result<Term, Memory>
+pub(crate) fn conditional(
+    alloc: Global,
+    world: &World,
+    a: Term,
+    b: Term,
+    c: Term,
+) -> Result<Term, Memory>
     ensures { IfOk result (λ t. t ≡ conditional a b c) }
 {
-    let name = Symbol::named(alloc, "IF")?;
+    let name = world.connective(Connective::If)?;
     let mut args = Seq::new(alloc);
     args.push(a)?;
     args.push(b)?;
     args.push(c)?;
     Term::call(alloc, name, args)
+}
+
+/// `(natp a)`
+pub(crate) fn natural(alloc: Global, world: &World, a: Term) -> Result<Term, Memory>
+    ensures { IfOk result (λ t. t ≡ natp a) }
+{
+    call1(alloc, world, Connective::Natp, a)
+}
+
+/// `(< a b)`
+pub(crate) fn comparison(alloc: Global, world: &World, a: Term, b: Term) -> Result<Term, Memory>
+    ensures { IfOk result (λ t. t ≡ less a b) }
+{
+    call2(alloc, world, Connective::Less, a, b)
 }
 
 /// The arguments of a call of the function with this name.

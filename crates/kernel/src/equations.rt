@@ -24,7 +24,7 @@ pub(crate) fn reflexive(alloc: Global, world: &World, term: &Term) -> Result<Seq
     if !fits(world, term) {
         return Err(RuleError::Refused);
     }
-    let goal = equation(alloc, term.share()?, term.share()?)?;
+    let goal = equation(alloc, world, term.share()?, term.share()?)?;
     Ok(of_goal(alloc, goal))
 }
 
@@ -99,7 +99,7 @@ pub(crate) fn unfolded(alloc: Global, world: &World, call: &Term) -> Result<Sequ
     };
     world.soundness();
     let body = body_at(alloc, definition, args)?;
-    let goal = equation(alloc, call.share()?, body)?;
+    let goal = equation(alloc, world, call.share()?, body)?;
     Ok(of_goal(alloc, goal))
 }
 
@@ -116,8 +116,8 @@ pub(crate) fn if_true(
     if !both_fit(world, b, c) {
         return Err(RuleError::Refused);
     }
-    let call = conditional(alloc, p.goal.share()?, b.share()?, c.share()?)?;
-    let goal = equation(alloc, call, b.share()?)?;
+    let call = conditional(alloc, world, p.goal.share()?, b.share()?, c.share()?)?;
+    let goal = equation(alloc, world, call, b.share()?)?;
     let sequent = with_goal(alloc, p, goal)?;
     Ok(sequent)
 }
@@ -138,8 +138,8 @@ pub(crate) fn if_false(
     if !both_fit(world, b, c) {
         return Err(RuleError::Refused);
     }
-    let call = conditional(alloc, test.share()?, b.share()?, c.share()?)?;
-    let goal = equation(alloc, call, c.share()?)?;
+    let call = conditional(alloc, world, test.share()?, b.share()?, c.share()?)?;
+    let goal = equation(alloc, world, call, c.share()?)?;
     let sequent = with_goal(alloc, p, goal)?;
     Ok(sequent)
 }

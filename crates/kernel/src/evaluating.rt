@@ -70,6 +70,6 @@ pub(crate) fn computed(alloc: Global, world: &World, term: &Term) -> Result<Sequ
     }
     let value = value_of(alloc, world, term)?;
     let value = Term::quote(alloc, value)?;
-    let goal = equation(alloc, term.share()?, value)?;
+    let goal = equation(alloc, world, term.share()?, value)?;
     Ok(of_goal(alloc, goal))
 }

@@ -99,7 +99,7 @@ fn over_x(alloc: Global, predicate: &Symbol, goal: Term) -> Result<Sequent, Memo
 }
 
 /// The condition of this number, from 1 to 4.
-fn condition_of(alloc: Global, iso: &Iso, number: u32) -> Result<Sequent, Memory>
+fn condition_of(alloc: Global, world: &World, iso: &Iso, number: u32) -> Result<Sequent, Memory>
     requires { IsSome (item (iso_conditions iso.now) number) }
     ensures { IfOk result (λ s. item (iso_conditions iso.now) number ≡ Some s) }
 {
@@ -116,12 +116,12 @@ fn condition_of(alloc: Global, iso: &Iso, number: u32) -> Result<Sequent, Memory
         3 => {
             let image = call(alloc, &iso.forth, x.share()?)?;
             let again = call(alloc, &iso.back, image)?;
-            over_x(alloc, &iso.oldp, equation(alloc, again, x)?)
+            over_x(alloc, &iso.oldp, equation(alloc, world, again, x)?)
         }
         _ => {
             let image = call(alloc, &iso.back, x.share()?)?;
             let again = call(alloc, &iso.forth, image)?;
-            over_x(alloc, &iso.newp, equation(alloc, again, x)?)
+            over_x(alloc, &iso.newp, equation(alloc, world, again, x)?)
         }
     }
 }
@@ -140,7 +140,7 @@ fn iso_condition(
     if number < 1 || 4 < number {
         return Err(RuleError::Refused);
     }
-    let sequent = condition_of(alloc, iso, number)?;
+    let sequent = condition_of(alloc, world, iso, number)?;
     Ok(sequent)
 }
 

@@ -9,20 +9,22 @@ ghost use Rattle.terms.specs.Terms.{Var};
 ghost use Rattle.kernel.specs.Axioms as spec;
 ghost use Rattle.kernel.specs.Sequents.{equation as Equation, negation as Negation, implication as Implication, conditional as Conditional};
 
-use crate::connectives::{conditional, equation, implication, negation};
+use crate::connectives::{comparison, conditional, equation, implication, natural, negation};
 use lisp_data::{Memory, Seq, Symbol, Value};
 use std::alloc::Global;
 use terms::Term;
+use worlds::World;
 
 /// Makes the terms of the axioms, each method the term that it is called after.
 #[derive(Drop)]
-pub(crate) struct Formulas {
+pub(crate) struct Formulas<'a> {
     alloc: Global,
+    world: &'a World,
 }
 
-impl Formulas {
-    pub(crate) fn new(alloc: Global) -> Formulas {
-        Formulas { alloc }
+impl<'a> Formulas<'a> {
+    pub(crate) fn new(alloc: Global, world: &'a World) -> Formulas<'a> {
+        Formulas { alloc, world }
     }
 
     fn var(&self, name: &str) -> Result<Term, Memory>
@@ -97,25 +99,25 @@ impl Formulas {
     pub(crate) fn equal(&self, a: Term, b: Term) -> Result<Term, Memory>
         ensures { IfOk result (λ t. t ≡ Equation a b) }
     {
-        equation(self.alloc, a, b)
+        equation(self.alloc, self.world, a, b)
     }
 
     pub(crate) fn implies(&self, a: Term, b: Term) -> Result<Term, Memory>
         ensures { IfOk result (λ t. t ≡ Implication a b) }
     {
-        implication(self.alloc, a, b)
+        implication(self.alloc, self.world, a, b)
     }
 
     pub(crate) fn not(&self, a: Term) -> Result<Term, Memory>
         ensures { IfOk result (λ t. t ≡ Negation a) }
     {
-        negation(self.alloc, a)
+        negation(self.alloc, self.world, a)
     }
 
     pub(crate) fn if_else(&self, a: Term, b: Term, c: Term) -> Result<Term, Memory>
         ensures { IfOk result (λ t. t ≡ Conditional a b c) }
     {
-        conditional(self.alloc, a, b, c)
+        conditional(self.alloc, self.world, a, b, c)
     }
 
     /// What the predicate says is T where it is true.
@@ -165,13 +167,13 @@ impl Formulas {
     pub(crate) fn natp(&self, a: Term) -> Result<Term, Memory>
         ensures { IfOk result (λ t. t ≡ spec.natp a) }
     {
-        self.call1("NATP", a)
+        natural(self.alloc, self.world, a)
     }
 
     pub(crate) fn less(&self, a: Term, b: Term) -> Result<Term, Memory>
         ensures { IfOk result (λ t. t ≡ spec.less a b) }
     {
-        self.call2("<", a, b)
+        comparison(self.alloc, self.world, a, b)
     }
 
     pub(crate) fn plus(&self, a: Term, b: Term) -> Result<Term, Memory>

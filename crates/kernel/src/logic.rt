@@ -57,7 +57,7 @@ pub(crate) fn by_cases(
     if !fits(world, case) || !p.goal.same(&q.goal) {
         return Err(RuleError::Refused);
     }
-    let sequent = of_cases(alloc, case, p, q)?;
+    let sequent = of_cases(alloc, world, case, p, q)?;
     Ok(sequent)
 }
 
@@ -133,7 +133,7 @@ pub(crate) fn implied(
     }
     let universals = p.universals.copy(alloc)?;
     let hyps = without(alloc, &p.hyps, term)?;
-    let goal = implication(alloc, term.share()?, p.goal.share()?)?;
+    let goal = implication(alloc, world, term.share()?, p.goal.share()?)?;
     Ok(Sequent {
         universals,
         hyps,

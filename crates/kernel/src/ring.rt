@@ -41,6 +41,6 @@ pub(crate) fn ringed(alloc: Global, world: &World, a: &Term, b: &Term) -> Result
     if !compared(alloc, a, b)? || !both_fit(world, a, b) {
         return Err(RuleError::Refused);
     }
-    let goal = equation(alloc, a.share()?, b.share()?)?;
+    let goal = equation(alloc, world, a.share()?, b.share()?)?;
     Ok(of_goal(alloc, goal))
 }

@@ -11,6 +11,7 @@ use crate::connectives::negation;
 use lisp_data::{Memory, Seq};
 use std::alloc::Global;
 use terms::{Sequent, Subst, Term, Terms, substitute};
+use worlds::World;
 
 /// A goal without universals and hypotheses.
 pub(crate) fn of_goal(alloc: Global, goal: Term) -> Sequent
@@ -112,13 +113,14 @@ pub(crate) fn without(alloc: Global, terms: &Terms, other: &Term) -> Result<Term
 /// The goal of both, from what they need beside the case and its negation.
 pub(crate) fn of_cases(
     alloc: Global,
+    world: &World,
     case: &Term,
     p: &Sequent,
     q: &Sequent,
 ) -> Result<Sequent, Memory>
     ensures { IfOk result (λ s. s ≡ of_cases case.now p.now q.now) }
 {
-    let other = negation(alloc, case.share()?)?;
+    let other = negation(alloc, world, case.share()?)?;
     let universals = join(alloc, &p.universals, &q.universals)?;
     let first = without(alloc, &p.hyps, case)?;
     let second = without(alloc, &q.hyps, &other)?;

@@ -57,12 +57,12 @@ impl Model for Sealed {
 }
 
 /// How many entries a world seals at a time.
-pub(crate) const STEP: usize = 32;
+pub(crate) const STEP: usize = 64;
 
 /// How many times a world with so many names seals more entries until they join the large block. The small block may
 /// grow with the names, so that both are copied seldom; it has at most 4,096 entries, which bounds the recursions over them.
 fn turns(names: usize) -> usize {
-    (names / 8).max(256).min(4096) / STEP
+    (names / 4).max(1024).min(4096) / STEP
 }
 
 impl Sealed {
