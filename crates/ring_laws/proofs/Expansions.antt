@@ -11,10 +11,10 @@ use Rattle.ring_laws.specs.Expressions.{Expression, Literal, Atom, Sum, Product,
 use Rattle.ring_laws.specs.FormalSums.{coefficient, support, negated, products, coefficients_agree}
 use Rattle.ring_laws.specs.Polynomials.{monomials, norm, same_polynomial}
 use Rattle.ring_laws.specs.Limits.{excess, own_excess, first_excess, excess_of}
-use Rattle.ring_laws.specs.view.Held.{held, exponents, together, by_exponents, SameSum, HasAtoms, with_atoms}
+use Rattle.ring_laws.specs.view.Held.{held, numbers, together, by_numbers, SameSum, HasAtoms, with_atoms}
 use Rattle.ring_laws.specs.view.Expansions.{excess_at, SaysSum, SaysExpansion, SaysLimit}
 use Rattle.ring_laws.proofs.Support.{same_size}
-use Rattle.ring_laws.proofs.Exponents.{covered, size_key, compared, sum_expanded, product_expanded, negation_expanded, has_first, has_second}
+use Rattle.ring_laws.proofs.Numbers.{covered, size_key, compared, sum_expanded, product_expanded, negation_expanded, has_first, has_second}
 use Rattle.ring_laws.specs.declared.limits.TheConstants.{MAX_MONOMIALS, MAX_NORM}
 
 abbrev Keyed : Type 0
@@ -41,12 +41,12 @@ says_wide n es h = ap (λ t. cond t (Some TooWide) (cond (nat_lt MAX_MONOMIALS (
     lt_true : (m k : ℕ) → m < k → nat_lt m k ≡ true
     lt_true m k l = search (tests, rules)
 
-excess_is : (n : ℕ) (es : Keyed) (table : List Tm) (e : Expression) → n ≡ norm e → SameSum es (by_exponents table (monomials e)) → HasAtoms table e → excess_at n es ≡ own_excess e
+excess_is : (n : ℕ) (es : Keyed) (table : List Tm) (e : Expression) → n ≡ norm e → SameSum es (by_numbers table (monomials e)) → HasAtoms table e → excess_at n es ≡ own_excess e
 excess_is n es table e i h a =
-    ap₂ excess i (same_size (List ℕ) bytes_eq nat_list_eq_equiv es (by_exponents table (monomials e)) h.same ∙ size_key table (monomials e) (covered table e a))
+    ap₂ excess i (same_size (List ℕ) bytes_eq nat_list_eq_equiv es (by_numbers table (monomials e)) h.same ∙ size_key table (monomials e) (covered table e a))
 
 -- an expression whose parts pass no limit
-says : (r : Result Expansion RingError) (n : ℕ) (es : Keyed) (table : List Tm) (e : Expression) → n ≡ norm e → SameSum es (by_exponents table (monomials e)) → HasAtoms table e → first_excess e ≡ own_excess e → SaysSum r n es → SaysExpansion r table e
+says : (r : Result Expansion RingError) (n : ℕ) (es : Keyed) (table : List Tm) (e : Expression) → n ≡ norm e → SameSum es (by_numbers table (monomials e)) → HasAtoms table e → first_excess e ≡ own_excess e → SaysSum r n es → SaysExpansion r table e
 says (Ok x) n es table e i h a f s =
     (record { same = λ k. s.0.same k ∙ h.same k }, s.1 ∙ i, f ∙ sym (excess_is n es table e i h a) ∙ s.2)
 says (Err TooWide) n es table e i h a f s = f ∙ sym (excess_is n es table e i h a) ∙ s
@@ -56,11 +56,11 @@ says (Err Memory) n es table e i h a f s = tt
 same_itself : (es : Keyed) → SameSum es es
 same_itself es = record { same = λ k. refl }
 
-pub literal_says : (r : Result Expansion RingError) (table : List Tm) (n : ℤ) (e : Expression) → Literal n ≡ e → HasAtoms table e → SaysSum r (nat_abs n) ((exponents table [], n) ∷ []) → SaysExpansion r table e
+pub literal_says : (r : Result Expansion RingError) (table : List Tm) (n : ℤ) (e : Expression) → Literal n ≡ e → HasAtoms table e → SaysSum r (nat_abs n) ((numbers table [], n) ∷ []) → SaysExpansion r table e
 literal_says r table n e i a s =
     subst (SaysExpansion r table) i (says r (nat_abs n) _ table (Literal n) refl (same_itself _) tt refl s)
 
-pub atom_says : (r : Result Expansion RingError) (table : List Tm) (t : Tm) (e : Expression) → Atom t ≡ e → HasAtoms table e → SaysSum r 1 ((exponents table (t ∷ []), pos 1) ∷ []) → SaysExpansion r table e
+pub atom_says : (r : Result Expansion RingError) (table : List Tm) (t : Tm) (e : Expression) → Atom t ≡ e → HasAtoms table e → SaysSum r 1 ((numbers table (t ∷ []), pos 1) ∷ []) → SaysExpansion r table e
 atom_says r table t e i a s =
     subst (SaysExpansion r table) i (says r 1 _ table (Atom t) refl (same_itself _) (subst (HasAtoms table) (sym i) a) refl s)
 

@@ -5,6 +5,7 @@ pub mod Values
 pub mod Soundness
 pub mod Parts
 pub mod Support
+pub mod Writes
 pub mod Maps
-pub mod Exponents
+pub mod Numbers
 pub mod Expansions

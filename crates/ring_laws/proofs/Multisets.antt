@@ -58,6 +58,64 @@ alike_laws = record {
   congr = λ k l m e. both_true _ _ (λ f. alike_chain l k m (alike_turn k l e) f) (λ f. alike_chain k l m e f);
 }
 
+without : Tm → List Tm → List Tm
+without a [] = []
+without a (b ∷ bs) = cond (same_tm a b) bs (b ∷ without a bs)
+
+counts_without : (a : Tm) (n : ℕ) (m : List Tm) → count_in a m ≡ suc n → (c : Tm) → count_in c m ≡ cond (same_tm c a) (suc (count_in c (without a m))) (count_in c (without a m))
+unfolding without
+counts_without a n [] e c = cc
+counts_without a n (b ∷ m) e c = by_test (same_tm a b) refl e (λ f. counts_without a n m f c)
+  where
+    swap : (t u : Bool) (x y : ℕ) → x ≡ cond u (suc y) y → cond t (suc x) x ≡ cond u (suc (cond t (suc y) y)) (cond t (suc y) y)
+    swap true true x y f = ap suc f
+    swap true false x y f = ap suc f
+    swap false true x y f = f
+    swap false false x y f = f
+
+    by_test : (t : Bool) → same_tm a b ≡ t → cond t (suc (count_in a m)) (count_in a m) ≡ suc n → (count_in a m ≡ suc n → count_in c m ≡ cond (same_tm c a) (suc (count_in c (without a m))) (count_in c (without a m))) → cond (same_tm c b) (suc (count_in c m)) (count_in c m) ≡ cond (same_tm c a) (suc (count_in c (cond t m (b ∷ without a m)))) (count_in c (cond t m (b ∷ without a m)))
+    by_test true f e' ih = ap (λ x. cond (same_tm c x) (suc (count_in c m)) (count_in c m)) (sym (same_term a b f))
+    by_test false f e' ih = swap (same_tm c b) (same_tm c a) (count_in c m) (count_in c (without a m)) (ih e')
+
+-- what a step makes of all atoms, where it doesn't matter which comes first
+module _ {X : Type 0} (step : Tm → X → X) (none : X) where
+  pub folded : List Tm → X
+  folded [] = none
+  folded (a ∷ m) = step a (folded m)
+
+  pub folded-none : folded [] ≡ none
+  unfolding folded
+  folded-none = refl
+
+  pub folded-more : (a : Tm) (m : List Tm) → folded (a ∷ m) ≡ step a (folded m)
+  unfolding folded
+  folded-more a m = refl
+
+  module _ (turned : (a b : Tm) (x : X) → step a (step b x) ≡ step b (step a x)) where
+    taken_out : (a : Tm) (n : ℕ) (m : List Tm) → count_in a m ≡ suc n → folded m ≡ step a (folded (without a m))
+    unfolding folded without
+    taken_out a n [] e = cc
+    taken_out a n (b ∷ m) e = by_test (same_tm a b) refl e (taken_out a n m)
+      where
+        by_test : (t : Bool) → same_tm a b ≡ t → cond t (suc (count_in a m)) (count_in a m) ≡ suc n → (count_in a m ≡ suc n → folded m ≡ step a (folded (without a m))) → step b (folded m) ≡ step a (folded (cond t m (b ∷ without a m)))
+        by_test true f e' ih = ap (λ x. step x (folded m)) (sym (same_term a b f))
+        by_test false f e' ih = ap (step b) (ih e') ∙ turned b a (folded (without a m))
+
+    pub same_counts : (k m : List Tm) → ((a : Tm) → count_in a k ≡ count_in a m) → folded k ≡ folded m
+    unfolding folded
+    same_counts [] [] h = refl
+    same_counts [] (b ∷ m) h =
+        let e = h b in let s : count_in b (b ∷ m) ≡ suc (count_in b m) = ap (λ t. cond t (suc (count_in b m)) (count_in b m)) (term_self b) in absurd (omega arith)
+    same_counts (a ∷ k) m h =
+        let s : count_in a (a ∷ k) ≡ suc (count_in a k) = ap (λ t. cond t (suc (count_in a k)) (count_in a k)) (term_self a) in
+        let e : count_in a m ≡ suc (count_in a k) = sym (h a) ∙ s in
+        ap (step a) (same_counts k (without a m) (λ c. drop (same_tm c a) (count_in c k) (count_in c (without a m)) (h c ∙ counts_without a (count_in a k) m e c)))
+        ∙ sym (taken_out a (count_in a k) m e)
+      where
+        drop : (t : Bool) (x y : ℕ) → cond t (suc x) x ≡ cond t (suc y) y → x ≡ y
+        drop true x y f = omega arith
+        drop false x y f = f
+
 -- the product of the atoms' numbers
 module _ (num : Tm → ℤ) where
   pub power : List Tm → ℤ
@@ -77,52 +135,13 @@ module _ (num : Tm → ℤ) where
   power-append [] m = sym (one-product (power m))
   power-append (a ∷ k) m = ap (λ x. num a *ℤ x) (power-append k m) ∙ sym (product-assoc (num a) (power k) (power m))
 
-  without : Tm → List Tm → List Tm
-  without a [] = []
-  without a (b ∷ bs) = cond (same_tm a b) bs (b ∷ without a bs)
+  turned : (a b : Tm) (x : ℤ) → num a *ℤ (num b *ℤ x) ≡ num b *ℤ (num a *ℤ x)
+  turned a b x = sym (product-assoc (num a) (num b) x) ∙ ap (λ y. y *ℤ x) (*ℤ_comm (num a) (num b)) ∙ product-assoc (num b) (num a) x
 
-  taken_out : (a : Tm) (n : ℕ) (m : List Tm) → count_in a m ≡ suc n → power m ≡ num a *ℤ power (without a m)
-  unfolding power without
-  taken_out a n [] e = cc
-  taken_out a n (b ∷ m) e = by_test (same_tm a b) refl e (taken_out a n m)
-    where
-      by_test : (t : Bool) → same_tm a b ≡ t → cond t (suc (count_in a m)) (count_in a m) ≡ suc n → (count_in a m ≡ suc n → power m ≡ num a *ℤ power (without a m)) → num b *ℤ power m ≡ num a *ℤ power (cond t m (b ∷ without a m))
-      by_test true f e' ih = ap (λ x. num x *ℤ power m) (sym (same_term a b f))
-      by_test false f e' ih =
-          ap (λ x. num b *ℤ x) (ih e')
-          ∙ sym (product-assoc (num b) (num a) (power (without a m)))
-          ∙ ap (λ x. x *ℤ power (without a m)) (*ℤ_comm (num b) (num a))
-          ∙ product-assoc (num a) (num b) (power (without a m))
-
-  counts_without : (a : Tm) (n : ℕ) (m : List Tm) → count_in a m ≡ suc n → (c : Tm) → count_in c m ≡ cond (same_tm c a) (suc (count_in c (without a m))) (count_in c (without a m))
-  unfolding without
-  counts_without a n [] e c = cc
-  counts_without a n (b ∷ m) e c = by_test (same_tm a b) refl e (λ f. counts_without a n m f c)
-    where
-      swap : (t u : Bool) (x y : ℕ) → x ≡ cond u (suc y) y → cond t (suc x) x ≡ cond u (suc (cond t (suc y) y)) (cond t (suc y) y)
-      swap true true x y f = ap suc f
-      swap true false x y f = ap suc f
-      swap false true x y f = f
-      swap false false x y f = f
-
-      by_test : (t : Bool) → same_tm a b ≡ t → cond t (suc (count_in a m)) (count_in a m) ≡ suc n → (count_in a m ≡ suc n → count_in c m ≡ cond (same_tm c a) (suc (count_in c (without a m))) (count_in c (without a m))) → cond (same_tm c b) (suc (count_in c m)) (count_in c m) ≡ cond (same_tm c a) (suc (count_in c (cond t m (b ∷ without a m)))) (count_in c (cond t m (b ∷ without a m)))
-      by_test true f e' ih = ap (λ x. cond (same_tm c x) (suc (count_in c m)) (count_in c m)) (sym (same_term a b f))
-      by_test false f e' ih = swap (same_tm c b) (same_tm c a) (count_in c m) (count_in c (without a m)) (ih e')
-
-  same_counts : (k m : List Tm) → ((a : Tm) → count_in a k ≡ count_in a m) → power k ≡ power m
-  unfolding power
-  same_counts [] [] h = refl
-  same_counts [] (b ∷ m) h =
-      let e = h b in let s : count_in b (b ∷ m) ≡ suc (count_in b m) = ap (λ t. cond t (suc (count_in b m)) (count_in b m)) (term_self b) in absurd (omega arith)
-  same_counts (a ∷ k) m h =
-      let s : count_in a (a ∷ k) ≡ suc (count_in a k) = ap (λ t. cond t (suc (count_in a k)) (count_in a k)) (term_self a) in
-      let e : count_in a m ≡ suc (count_in a k) = sym (h a) ∙ s in
-      ap (λ x. num a *ℤ x) (same_counts k (without a m) (λ c. drop (same_tm c a) (count_in c k) (count_in c (without a m)) (h c ∙ counts_without a (count_in a k) m e c)))
-      ∙ sym (taken_out a (count_in a k) m e)
-    where
-      drop : (t : Bool) (x y : ℕ) → cond t (suc x) x ≡ cond t (suc y) y → x ≡ y
-      drop true x y f = omega arith
-      drop false x y f = f
+  power_fold : (m : List Tm) → power m ≡ folded (λ a x. num a *ℤ x) (pos 1) m
+  unfolding power folded
+  power_fold [] = refl
+  power_fold (a ∷ m) = ap (λ x. num a *ℤ x) (power_fold m)
 
   pub same_power : (k m : List Tm) → alike k m ≡ true → power k ≡ power m
-  same_power k m e = same_counts k m (alike_counts k m e)
+  same_power k m e = power_fold k ∙ same_counts (λ a x. num a *ℤ x) (pos 1) turned k m (alike_counts k m e) ∙ sym (power_fold m)

@@ -1,3 +1,4 @@
 pub mod Held
 pub mod Readings
 pub mod Expansions
+pub mod Writes

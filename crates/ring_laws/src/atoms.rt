@@ -1,36 +1,29 @@
-//! The atoms of terms, and their exponents.
+//! The atoms of terms, and their numbers.
 
 ghost use Rattle.std.specs.Prelude.{◌≡◌, [], ◌∷◌, IfOk, OnOk};
-ghost use Rattle.std.specs.List.{list_any};
-ghost use Rattle.terms.specs.Terms.{same_tm};
 ghost use Rattle.ring_laws.specs.Expressions.{expression};
-ghost use Rattle.ring_laws.specs.Polynomials.{count_in};
-ghost use Rattle.ring_laws.specs.view.Held.{exponents, together, with_atom, with_atoms};
+ghost use Rattle.ring_laws.specs.view.Held.{number_of, numbers, together, with_atom, with_atoms};
 
+use crate::atom::Atom;
 use crate::shape::{Reading, read};
-use lists::{Memory, Seq};
+use indexmap::IndexSet;
+use lists::Memory;
 use std::alloc::Global;
-use terms::{Term, Terms};
+use terms::Term;
 
-fn has(found: &Terms, atom: &Term) -> bool
-    ensures { result ≡ list_any (same_tm atom.now) found.now }
-{
-    found.as_slice().iter().any(|other| atom.same(other))
-}
+/// Atoms, each once. The number of an atom is its place among them.
+pub(crate) type Atoms = IndexSet<Atom>;
 
-fn collect_atom(atom: &Term, found: &mut Terms) -> Result<(), Memory>
-    ensures { OnOk result (found.new ≡ with_atom atom.now found.old) }
+fn collect_atom(atom: &Term, found: &mut Atoms) -> Result<(), Memory>
+    ensures { OnOk result (found.new.keys ≡ with_atom atom.now found.old.keys) }
 {
-    if has(found, atom) {
-        Ok(())
-    } else {
-        found.push(atom.share()?)
-    }
+    let _added = found.insert(Atom::of(atom)?)?;
+    Ok(())
 }
 
 /// Adds the atoms of a term that are new.
-pub(crate) fn collect(term: &Term, found: &mut Terms) -> Result<(), Memory>
-    ensures { OnOk result (found.new ≡ with_atoms (expression term.now) found.old) }
+pub(crate) fn collect(term: &Term, found: &mut Atoms) -> Result<(), Memory>
+    ensures { OnOk result (found.new.keys ≡ with_atoms (expression term.now) found.old.keys) }
 {
     match read(term) {
         Reading::Literal(_) => Ok(()),
@@ -47,47 +40,40 @@ pub(crate) fn collect(term: &Term, found: &mut Terms) -> Result<(), Memory>
     }
 }
 
-fn occurs(other: &Term, atom: &Term) -> u32
-    ensures { result ≡ count_in other.now (atom.now ∷ []) }
+fn number_of(atom: &Term, atoms: &Atoms) -> Result<usize, Memory>
+    ensures { IfOk result (λ n. n ≡ number_of atoms.now.keys atom.now) }
 {
-    if other.same(atom) { 1 } else { 0 }
+    let atom = Atom::of(atom)?;
+    let number = atoms.get_index_of(&atom).unwrap_or(atoms.len());
+    Ok(number)
 }
 
-/// The exponents of the product of no atoms.
-pub(crate) fn exponents_of_none(alloc: Global, atoms: &[Term]) -> Result<Vec<u32>, Memory>
-    ensures { IfOk result (λ v. v.items ≡ exponents atoms.now []) }
+/// The numbers of an atom.
+pub(crate) fn numbers_of(alloc: Global, atom: &Term, atoms: &Atoms) -> Result<Vec<usize>, Memory>
+    ensures { IfOk result (λ v. v.items ≡ numbers atoms.now.keys (atom.now ∷ [])) }
 {
-    let mut exponents = Vec::new(alloc);
-    for _atom in atoms {
-        exponents.push(0)?;
-    }
-    Ok(exponents)
+    let mut numbers = Vec::new(alloc);
+    numbers.push(number_of(atom, atoms)?)?;
+    Ok(numbers)
 }
 
-/// The exponents of an atom.
-pub(crate) fn exponents_of(alloc: Global, atom: &Term, atoms: &[Term]) -> Result<Vec<u32>, Memory>
-    ensures { IfOk result (λ v. v.items ≡ exponents atoms.now (atom.now ∷ [])) }
-{
-    let mut exponents = Vec::new(alloc);
-    for other in atoms {
-        exponents.push(occurs(other, atom))?;
-    }
-    Ok(exponents)
-}
-
-/// The exponents of a product.
-pub(crate) fn together(alloc: Global, a: &[u32], b: &[u32]) -> Result<Vec<u32>, Memory>
+/// The numbers of a product, from those of its factors.
+pub(crate) fn together(alloc: Global, a: &[usize], b: &[usize]) -> Result<Vec<usize>, Memory>
     ensures { IfOk result (λ v. v.items ≡ together a.now b.now) }
 {
-    let shared = a.len().min(b.len());
-    let mut exponents = Vec::new(alloc);
-    for i in 0..shared {
-        let Some(exponent) = a[i].checked_add(b[i]) else {
-            return Err(Memory);
-        };
-        exponents.push(exponent)?;
+    let mut numbers = Vec::new(alloc);
+    let mut a = a;
+    let mut b = b;
+    'both: while let ([x, more_a @ ..], [y, more_b @ ..]) = (a, b) {
+        if x <= y {
+            numbers.push(*x)?;
+            a = more_a;
+        } else {
+            numbers.push(*y)?;
+            b = more_b;
+        }
     }
-    exponents.extend_from_slice(&a[shared..])?;
-    exponents.extend_from_slice(&b[shared..])?;
-    Ok(exponents)
+    numbers.extend_from_slice(a)?;
+    numbers.extend_from_slice(b)?;
+    Ok(numbers)
 }

@@ -6,10 +6,9 @@ ghost use Rattle.ring_laws.specs.Polynomials.{SamePolynomial, same_polynomial};
 ghost use Rattle.ring_laws.specs.Limits.{excess_of};
 ghost use Rattle.ring_laws.specs.view.Expansions.{SaysLimit};
 
-use crate::atoms::collect;
+use crate::atoms::{Atoms, collect};
 use crate::errors::RingError;
 use crate::expansion::expand;
-use lists::Seq;
 use std::alloc::Global;
 use terms::Term;
 
@@ -22,10 +21,10 @@ pub fn same_polynomial(alloc: Global, a: &Term, b: &Term) -> Result<bool, RingEr
     ensures same { IfOk result (λ same. IsTrue same ↔ SamePolynomial a.now b.now) }
     ensures limit { SaysLimit result (excess_of a.now b.now) }
 {
-    let mut atoms = Seq::new(alloc);
+    let mut atoms = Atoms::new(alloc);
     collect(a, &mut atoms)?;
     collect(b, &mut atoms)?;
-    let p = expand(alloc, a, atoms.as_slice())?;
-    let q = expand(alloc, b, atoms.as_slice())?;
+    let p = expand(alloc, a, &atoms)?;
+    let q = expand(alloc, b, &atoms)?;
     Ok(p.polynomial.same(&q.polynomial))
 }

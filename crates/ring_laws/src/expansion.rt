@@ -3,11 +3,11 @@
 ghost use Rattle.std.specs.Prelude.{◌≡◌, ◌+◌, ◌*◌, ◌-◌, ◌^◌, ◌≤◌, [], ◌∷◌, ◌++◌, pos, nat_abs, IfOk};
 ghost use Rattle.ring_laws.specs.Expressions.{expression};
 ghost use Rattle.ring_laws.specs.FormalSums.{negated, products};
-ghost use Rattle.ring_laws.specs.view.Held.{held, exponents, together, HasAtoms};
+ghost use Rattle.ring_laws.specs.view.Held.{held, numbers, together, HasAtoms};
 ghost use Rattle.ring_laws.specs.view.Expansions.{SaysSum, SaysExpansion};
 ghost use Rattle.ring_laws.specs.declared.limits.TheConstants.{MAX_NORM};
 
-use crate::atoms::{exponents_of, exponents_of_none};
+use crate::atoms::{Atoms, numbers_of};
 use crate::errors::RingError;
 use crate::limits::{MAX_MONOMIALS, MAX_NORM};
 use crate::polynomial::Polynomial;
@@ -42,24 +42,24 @@ fn small(polynomial: Polynomial, norm: u128) -> Result<Expansion, RingError>
 }
 
 #[tactic(auto, using(crate::proofs::Expansions::expansions))]
-fn literal(alloc: Global, number: i128, atoms: &[Term]) -> Result<Expansion, RingError>
-    ensures { SaysSum result (nat_abs number) ((exponents atoms.now [], number) ∷ []) }
+fn literal(alloc: Global, number: i128) -> Result<Expansion, RingError>
+    ensures { SaysSum result (nat_abs number) (([], number) ∷ []) }
 {
     let norm = number.unsigned_abs();
     if norm > MAX_NORM {
         return Err(RingError::TooWide);
     }
     let mut polynomial = Polynomial::zero(alloc);
-    polynomial.add(exponents_of_none(alloc, atoms)?, number)?;
+    polynomial.add(Vec::new(alloc), number)?;
     small(polynomial, norm)
 }
 
 #[tactic(auto, using(crate::proofs::Expansions::expansions))]
-fn atom(alloc: Global, term: &Term, atoms: &[Term]) -> Result<Expansion, RingError>
-    ensures { SaysSum result 1 ((exponents atoms.now (term.now ∷ []), pos 1) ∷ []) }
+fn atom(alloc: Global, term: &Term, atoms: &Atoms) -> Result<Expansion, RingError>
+    ensures { SaysSum result 1 ((numbers atoms.now.keys (term.now ∷ []), pos 1) ∷ []) }
 {
     let mut polynomial = Polynomial::zero(alloc);
-    polynomial.add(exponents_of(alloc, term, atoms)?, 1)?;
+    polynomial.add(numbers_of(alloc, term, atoms)?, 1)?;
     small(polynomial, 1)
 }
 
@@ -112,12 +112,12 @@ impl Expansion {
 
 /// The term multiplied out, or the first limit that it passes.
 #[tactic(auto, using(crate::proofs::Expansions::expansions))]
-pub(crate) fn expand(alloc: Global, term: &Term, atoms: &[Term]) -> Result<Expansion, RingError>
-    requires { HasAtoms atoms.now (expression term.now) }
-    ensures { SaysExpansion result atoms.now (expression term.now) }
+pub(crate) fn expand(alloc: Global, term: &Term, atoms: &Atoms) -> Result<Expansion, RingError>
+    requires { HasAtoms atoms.now.keys (expression term.now) }
+    ensures { SaysExpansion result atoms.now.keys (expression term.now) }
 {
     match read(term) {
-        Reading::Literal(number) => literal(alloc, number, atoms),
+        Reading::Literal(number) => literal(alloc, number),
         Reading::Atom => atom(alloc, term, atoms),
         Reading::Sum(a, b) => {
             let a = expand(alloc, a, atoms)?;

@@ -1,6 +1,7 @@
 //! Comparison of terms as polynomials over the integers.
 #![tactic(auto)]
 
+mod atom;
 mod atoms;
 mod comparison;
 mod errors;

@@ -1,4 +1,4 @@
-//! Polynomials: monomials by their exponents, with coefficients.
+//! Polynomials: monomials by the numbers of their atoms, with coefficients.
 
 ghost use Rattle.std.specs.Prelude.{◌≡◌, [], ◌∷◌, ◌++◌, pos, length, not, IfOk, OnOk, bytes_eq};
 ghost use Rattle.std.specs.List.{list_all, filter};
@@ -12,9 +12,9 @@ use lists::Memory;
 use std::alloc::Global;
 use std::collections::BTreeMap;
 
-/// Monomials by their exponents, with their coefficients, some of which may be 0.
+/// Monomials by the numbers of their atoms in order, with their coefficients, some of which may be 0.
 pub(crate) struct Polynomial {
-    terms: BTreeMap<Vec<u32>, i128>,
+    terms: BTreeMap<Vec<usize>, i128>,
 }
 
 impl Drop for Polynomial {
@@ -32,30 +32,30 @@ impl Polynomial {
         }
     }
 
-    /// The coefficient at these exponents.
+    /// The coefficient at this monomial.
     #[tactic(auto, using(crate::proofs::Maps::maps))]
-    fn coefficient(&self, exponents: &Vec<u32>) -> i128
-        ensures { result ≡ coefficient bytes_eq (held self.now.terms.entries) exponents.now.items }
+    fn coefficient(&self, monomial: &Vec<usize>) -> i128
+        ensures { result ≡ coefficient bytes_eq (held self.now.terms.entries) monomial.now.items }
     {
         let _entries = self.terms.len();
-        match self.terms.get(exponents) {
+        match self.terms.get(monomial) {
             Some(factor) => *factor,
             None => 0,
         }
     }
 
     /// Adds a monomial. `Memory` comes also where the sum doesn't fit, which no sum within a norm does.
-    pub(crate) fn add(&mut self, exponents: Vec<u32>, factor: i128) -> Result<(), Memory>
-        ensures { OnOk result (SameSum (held self.new.terms.entries) ((exponents.items, factor) ∷ held self.old.terms.entries)) }
+    pub(crate) fn add(&mut self, monomial: Vec<usize>, factor: i128) -> Result<(), Memory>
+        ensures { OnOk result (SameSum (held self.new.terms.entries) ((monomial.items, factor) ∷ held self.old.terms.entries)) }
     {
         if factor == 0 {
             return Ok(());
         }
-        let Some(sum) = self.coefficient(&exponents).checked_add(factor) else {
+        let Some(sum) = self.coefficient(&monomial).checked_add(factor) else {
             return Err(Memory);
         };
         let _entries = self.terms.len();
-        self.terms.insert(exponents, sum)?;
+        self.terms.insert(monomial, sum)?;
         Ok(())
     }
 
@@ -63,17 +63,17 @@ impl Polynomial {
     fn add_times(
         &mut self,
         alloc: Global,
-        exponents: &[u32],
+        monomial: &[usize],
         factor: &i128,
         other: &Polynomial,
     ) -> Result<(), Memory>
-        ensures { OnOk result (SameSum (held self.new.terms.entries) (held self.old.terms.entries ++ times_each together (exponents.now, factor.now) (held other.now.terms.entries))) }
+        ensures { OnOk result (SameSum (held self.new.terms.entries) (held self.old.terms.entries ++ times_each together (monomial.now, factor.now) (held other.now.terms.entries))) }
     {
         for (others, other_factor) in &other.terms {
             let Some(product) = factor.checked_mul(*other_factor) else {
                 return Err(Memory);
             };
-            self.add(together(alloc, exponents, others.as_slice())?, product)?;
+            self.add(together(alloc, monomial, others.as_slice())?, product)?;
         }
         Ok(())
     }
@@ -108,8 +108,8 @@ impl Polynomial {
         ensures { IfOk result (λ p. SameSum (held p.terms.entries) (products together (held self.now.terms.entries) (held other.now.terms.entries))) }
     {
         let mut product = Polynomial::zero(alloc);
-        for (exponents, factor) in &self.terms {
-            product.add_times(alloc, exponents.as_slice(), factor, other)?;
+        for (monomial, factor) in &self.terms {
+            product.add_times(alloc, monomial.as_slice(), factor, other)?;
         }
         Ok(product)
     }
@@ -138,8 +138,8 @@ impl Polynomial {
     fn is_within(&self, other: &Polynomial) -> bool
         ensures { result ≡ list_all (λ e. int_eq (coefficient bytes_eq (held self.now.terms.entries) e.0) (coefficient bytes_eq (held other.now.terms.entries) e.0)) (held self.now.terms.entries) }
     {
-        for (exponents, _factor) in &self.terms {
-            if self.coefficient(exponents) != other.coefficient(exponents) {
+        for (monomial, _factor) in &self.terms {
+            if self.coefficient(monomial) != other.coefficient(monomial) {
                 return false;
             }
         }

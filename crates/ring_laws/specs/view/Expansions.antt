@@ -8,7 +8,7 @@ use Rattle.ring_laws.specs.Expressions.{Expression}
 use Rattle.ring_laws.specs.FormalSums.{support}
 use Rattle.ring_laws.specs.Polynomials.{monomials, norm}
 use Rattle.ring_laws.specs.Limits.{excess, first_excess}
-use Rattle.ring_laws.specs.view.Held.{held, by_exponents, SameSum}
+use Rattle.ring_laws.specs.view.Held.{held, by_numbers, SameSum}
 
 abbrev pub excess_at : ℕ → List (List ℕ × ℤ) → Option RingError
 excess_at n es = excess n (length (support bytes_eq es))
@@ -23,7 +23,7 @@ SaysSum (Err Memory) n es = Unit {0}
 -- it is the expression multiplied out, or the first limit that it passes
 abbrev pub SaysExpansion : Result Expansion RingError → List Tm → Expression → Type 0
 SaysExpansion (Ok x) table e =
-    SameSum (held x.polynomial.terms.entries) (by_exponents table (monomials e)) × (x.norm ≡ norm e) × (first_excess e ≡ None)
+    SameSum (held x.polynomial.terms.entries) (by_numbers table (monomials e)) × (x.norm ≡ norm e) × (first_excess e ≡ None)
 SaysExpansion (Err TooWide) table e = first_excess e ≡ Some TooWide
 SaysExpansion (Err TooLarge) table e = first_excess e ≡ Some TooLarge
 SaysExpansion (Err Memory) table e = Unit {0}

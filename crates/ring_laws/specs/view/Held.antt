@@ -1,31 +1,45 @@
--- What the code's polynomials hold: monomials by the exponents of the atoms in a list.
-use Rattle.std.specs.Prelude.{◌≡◌, ◌+◌, ℕ, true, ℤ, List, [], ◌∷◌, ◌++◌, map, Vec, bytes_eq, if◌then◌else◌}
-use Rattle.std.specs.List.{list_any}
+-- What the code's polynomials hold: monomials by the numbers of their atoms.
+use Rattle.std.specs.Prelude.{◌≡◌, ℕ, true, ℤ, List, [], ◌∷◌, ◌++◌, Vec, nat_le, bytes_eq, if◌then◌else◌}
+use Rattle.std.specs.List.{list_any, position_or_len}
 use Rattle.std.specs.declared.alloc.Global.{Global}
 use Rattle.terms.specs.Terms.{Tm, same_tm}
 use Rattle.ring_laws.specs.Expressions.{Expression, Literal, Atom, Sum, Product, Negation}
 use Rattle.ring_laws.specs.FormalSums.{coefficient}
 use Rattle.ring_laws.specs.Polynomials.{Monomials, count_in}
 
--- how often each of these atoms is in a multiset
-abbrev pub exponents : List Tm → List Tm → List ℕ
-exponents table m = map (λ a. count_in a m) table
+-- the number of an atom: its place in the list
+abbrev pub number_of : List Tm → Tm → ℕ
+number_of table a = position_or_len (same_tm a) table
 
--- the exponents of a product
+-- a number put before the first that isn't less
+abbrev pub put_in : ℕ → List ℕ → List ℕ
+put_in n [] = n ∷ []
+put_in n (x ∷ xs) = if nat_le n x then n ∷ x ∷ xs else x ∷ put_in n xs
+
+-- the numbers of a multiset's atoms in order, each as often as the atom is in it
+abbrev pub numbers : List Tm → List Tm → List ℕ
+numbers table [] = []
+numbers table (a ∷ m) = put_in (number_of table a) (numbers table m)
+
+-- x ∷ xs and another list as one in order, where rest does so for xs
+abbrev pub together_from : ℕ → List ℕ → (List ℕ → List ℕ) → List ℕ → List ℕ
+together_from x xs rest [] = x ∷ xs
+together_from x xs rest (y ∷ ys) = if nat_le x y then x ∷ rest (y ∷ ys) else y ∷ together_from x xs rest ys
+
+-- the numbers of a product: two lists in order as one in order
 abbrev pub together : List ℕ → List ℕ → List ℕ
 together [] ys = ys
-together (x ∷ xs) [] = x ∷ xs
-together (x ∷ xs) (y ∷ ys) = (x + y) ∷ together xs ys
+together (x ∷ xs) ys = together_from x xs (together xs) ys
 
 -- the formal sum that a map holds
 abbrev pub held : List (Vec ℕ Global × ℤ) → List (List ℕ × ℤ)
 held [] = []
 held (e ∷ es) = (e.0.items, e.1) ∷ held es
 
--- the monomials, each by its exponents
-abbrev pub by_exponents : List Tm → Monomials → List (List ℕ × ℤ)
-by_exponents table [] = []
-by_exponents table (e ∷ es) = (exponents table e.0, e.1) ∷ by_exponents table es
+-- the monomials, each by its numbers
+abbrev pub by_numbers : List Tm → Monomials → List (List ℕ × ℤ)
+by_numbers table [] = []
+by_numbers table (e ∷ es) = (numbers table e.0, e.1) ∷ by_numbers table es
 
 -- the coefficients of the two are equal
 pub record SameSum (es fs : List (List ℕ × ℤ)) : Type 0 where

@@ -12,11 +12,10 @@ returns-clause-value c =
     let a = c.args.a.now in
     let b = c.args.b.now in
     let atoms = with_atoms (expression b) (with_atoms (expression a) []) in
-    let one : c.as_slice.result.now ≡ atoms = grind arith in
-    let two : c.as_slice-2.result.now ≡ atoms = grind arith in
+    let all : c.collect-2.new.found.keys ≡ atoms = grind arith in
     c.same.ensures ∙ compared_terms c.in_ok-p.p c.in_ok-q.q [] a b
-    (subst (λ t. SaysExpansion (Ok c.in_ok-p.p) t (expression a)) one c.in_ok-p.ensures)
-    (subst (λ t. SaysExpansion (Ok c.in_ok-q.q) t (expression b)) two c.in_ok-q.ensures)
+    (subst (λ t. SaysExpansion (Ok c.in_ok-p.p) t (expression a)) all c.in_ok-p.ensures)
+    (subst (λ t. SaysExpansion (Ok c.in_ok-q.q) t (expression b)) all c.in_ok-q.ensures)
 
 pub returns-clause-same : goal.returns-clause-same
 returns-clause-same c =

@@ -13,4 +13,4 @@ returns c =
     let plain = ap₂ (λ x y. x +ℤ y) (to_z-of_z w128 c.coefficient.result fits) (to_z-of_z w128 c.args.factor c.ranges.factor) in
     let is = c.in-Some.ensures.1 ∙ plain ∙ ap (λ z. z +ℤ c.args.factor) c.coefficient.ensures in
     let stored = to_z-of_z w128 c.in-Some.sum (subst (SFits w128) (sym c.in-Some.ensures.1) c.in-Some.ensures.0) in
-    subst (λ fs. SameSum (held fs) ((c.args.exponents.items, c.args.factor) ∷ held es)) (sym c.in_ok-insert.ensures.entries) (added es c.args.exponents c.args.factor _ c.len-entries.ensures.ordered (stored ∙ is))
+    subst (λ fs. SameSum (held fs) ((c.args.monomial.items, c.args.factor) ∷ held es)) (sym c.in_ok-insert.ensures.entries) (added es c.args.monomial c.args.factor _ c.len-entries.ensures.ordered (stored ∙ is))

@@ -5,7 +5,7 @@ use Rattle.ring_laws.specs.FormalSums.{coefficient}
 use Rattle.ring_laws.specs.view.Held.{held}
 use Rattle.ring_laws.proofs.polynomial.Polynomial.is_within.Given as goal
 
-abbrev pub invariant-loop-exponents : goal.invariant-loop-exponents
-invariant-loop-exponents l =
-    list_all (λ e. int_eq (coefficient bytes_eq (held l.self.terms.entries) e.0) (coefficient bytes_eq (held l.other.terms.entries) e.0)) (held l.exponents-iterator)
+abbrev pub invariant-loop-monomial : goal.invariant-loop-monomial
+invariant-loop-monomial l =
+    list_all (λ e. int_eq (coefficient bytes_eq (held l.self.terms.entries) e.0) (coefficient bytes_eq (held l.other.terms.entries) e.0)) (held l.monomial-iterator)
     ≡ list_all (λ e. int_eq (coefficient bytes_eq (held l.self.terms.entries) e.0) (coefficient bytes_eq (held l.other.terms.entries) e.0)) (held l.self.terms.entries)
