@@ -82,10 +82,10 @@ nothing_before vars ds f h =
 
 -- a fresh definition changes nothing for the others, and adds nothing by itself
 module _ (vars : List (Name × ℕ)) (ds : List Definition) (c : Definition) (fresh : arity (functions vars ds) c.name ≡ None) where
-  old : Name → List Name
+  abbrev old : Name → List Name
   old g = dependence vars ds g
 
-  new : Name → List Name
+  abbrev new : Name → List Name
   new g = dependence vars (c ∷ ds) g
 
   but_itself : (g : Name) → old g ≡ others (Some c.name) new g
@@ -107,8 +107,8 @@ module _ (vars : List (Name × ℕ)) (ds : List Definition) (c : Definition) (fr
   parts_same : (f : Name) (d : Definition) → FitsOver (functions vars ds) d.formals d.body → IfSome d.measure (FitsOver (functions vars ds) d.formals) → parts (others (Some f) old) d ≡ parts (others (Some f) new) d
   parts_same f d fits measure =
       let body =
-          term_same (IsIn d.formals) (others (Some f) old) (others (Some f) new) d.body
-          (over_to (IsIn d.formals) (λ g k. arity (functions vars ds) g ≡ Some k) (λ g k. others (Some f) old g ≡ others (Some f) new g) (other_same f) d.body fits) in
+      term_same (IsIn d.formals) (others (Some f) old) (others (Some f) new) d.body
+      (over_to (IsIn d.formals) (λ g k. arity (functions vars ds) g ≡ Some k) (λ g k. others (Some f) old g ≡ others (Some f) new g) (other_same f) d.body fits) in
       λ i. body i ++ measure_same f d.formals d.measure measure i
 
 -- a defined function depends on what its definition calls, but for itself

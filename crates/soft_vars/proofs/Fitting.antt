@@ -1,5 +1,5 @@
 -- Pairs that are accepted fit.
-use Rattle.std.proofs.Common.{◌≡◌, ℕ, Bool, true, false, cond, not, List, [], ◌∷◌, ◌++◌, nat_eq, is_some, Option, Some, None, Ok, Err, if◌then◌else◌, refl, sym, ap, ◌∙◌, subst, append_assoc, append-nil, eqb→eq}
+use Rattle.std.proofs.Common.{◌≡◌, ℕ, Bool, true, false, cond, not, List, [], ◌∷◌, ◌++◌, nat_eq, is_some, Option, Some, None, Ok, Err, if◌then◌else◌, refl, sym, ap, ◌∙◌, subst, append_assoc, append-nil, T, eqb→eq}
 use Rattle.lisp_data.specs.Values.{Name}
 use Rattle.terms.specs.Primitives.{lookup}
 use Rattle.terms.specs.Worlds.{World, Each, arity}
@@ -29,7 +29,7 @@ fits v g true true (Some k) None u e = absurd (cc)
 fits v g true true (Some k) (Some l) u e = by_test (nat_eq k l) refl e
   where
     by_test : (b : Bool) → nat_eq k l ≡ b → ◌≡◌ {A = Outcome (Unit {0})} (if not b then wrong_arity g else Ok tt) (Ok u) → (j : ℕ) × (◌≡◌ {A = Option ℕ} (Some k) (Some j)) × (◌≡◌ {A = Option ℕ} (Some l) (Some j))
-    by_test true t e' = (k, refl, ap Some (sym (eqb→eq k l t)))
+    by_test true t e' = (k, refl, ap Some (sym (eqb→eq k l (subst T (sym t) tt))))
     by_test false t e' = absurd (cc)
 
 -- a pair that is accepted fits, its variable is new, and it is added
@@ -41,7 +41,7 @@ record Accepted (W : World) (m : NamePairs) (p : FunPair) (n : NamePairs) : Type
 accepted : (W : World) (m : NamePairs) (p : FunPair) (n : NamePairs) → with_pair W m p ≡ Ok n → Accepted W m p n
 accepted W m p n e =
     let r = then_ok (fitting_pair W p) (λ u. if is_some (lookup m p.variable) then repeated p.variable else Ok (m ++ (p.variable, p.function) ∷ [])) n e in
-    let s = is_new (lookup m p.variable) r.2.1 in
+    let s = is_new (lookup m p.variable) r.2 in
     record {
       fitting = fits p.variable p.function (is_known W p.variable) (is_known W p.function) (lookup W.functions.vars p.variable) (arity W.functions p.function) r.0 r.1;
       is_new = s.0;

@@ -39,16 +39,24 @@ in_joined : (found xs : List Name) (y : Name) → is_in (joined found xs) y ≡ 
 in_joined found [] y = sym (or-false (is_in found y))
 in_joined found (x ∷ xs) y = in_joined (with_name x found) xs y ∙ ap (λ b. b || is_in xs y) (in_with_name x found y) ∙ or-assoc (is_in found y) (bytes_eq x y) (is_in xs y)
 
--- each name once: the same names
-pub any-once : (y : Name) (xs : List Name) → list_any (bytes_eq y) (each_once xs) ≡ is_in xs y
-any-once y xs = any-is_in y (each_once xs) ∙ in_joined [] xs y
+-- the same names keep the same pairs
+pub restricted-once : (ps : List FunPair) (xs : List Name) → restricted ps (each_once xs) ≡ restricted ps xs
+restricted-once [] xs = refl
+restricted-once (p ∷ ps) xs = λ i. cond (in_joined [] xs p.variable i) (p ∷ restricted-once ps xs i) (restricted-once ps xs i)
 
--- a pair is kept where the function depends on its variable
-pub kept : (xs : List Name) (own : List FunPair) (p : FunPair) (ps : List FunPair) → is_in xs p.variable ≡ true → (own ++ p ∷ []) ++ restricted ps xs ≡ own ++ restricted (p ∷ ps) xs
-kept xs own p ps e = append_assoc own (p ∷ []) (restricted ps xs) ∙ ap (λ b. own ++ cond b (p ∷ restricted ps xs) (restricted ps xs)) (sym e)
+-- a pair is kept where its variable is among the names
+pub kept : (xs : List Name) (p : FunPair) → list_any (bytes_eq p.variable) xs ≡ true → restricted (p ∷ []) xs ≡ p ∷ []
+kept xs p e = ap (λ b. cond b (p ∷ []) []) (sym (any-is_in p.variable xs) ∙ e)
 
-pub left_out : (xs : List Name) (own : List FunPair) (p : FunPair) (ps : List FunPair) → is_in xs p.variable ≡ false → own ++ restricted ps xs ≡ own ++ restricted (p ∷ ps) xs
-left_out xs own p ps e = ap (λ b. own ++ cond b (p ∷ restricted ps xs) (restricted ps xs)) (sym e)
+pub left_out : (xs : List Name) (p : FunPair) → list_any (bytes_eq p.variable) xs ≡ false → restricted (p ∷ []) xs ≡ []
+left_out xs p e = ap (λ b. cond b (p ∷ []) []) (sym (any-is_in p.variable xs) ∙ e)
+
+pub one_more : (xs : List Name) (own : List FunPair) (p : FunPair) (ps : List FunPair) → (own ++ restricted (p ∷ []) xs) ++ restricted ps xs ≡ own ++ restricted (p ∷ ps) xs
+one_more xs own p ps = append_assoc own (restricted (p ∷ []) xs) (restricted ps xs) ∙ ap (λ qs. own ++ qs) (by_test (is_in xs p.variable))
+  where
+    by_test : (b : Bool) → cond b (p ∷ []) [] ++ restricted ps xs ≡ cond b (p ∷ restricted ps xs) (restricted ps xs)
+    by_test true = refl
+    by_test false = refl
 
 -- a function without own pairs adds nothing, another one its recorded instance
 pub without_own : (W : World) (m : NamePairs) (f : Name) (own : List FunPair) → length own ≡ 0 → by_own_pairs W m f own ≡ Ok m
@@ -59,4 +67,4 @@ pub with_own : (W : World) (m : NamePairs) (f : Name) (own : List FunPair) → l
 with_own W m f [] e = absurd (e refl)
 with_own W m f (p ∷ ps) e = refl
 
-pub ruleset owned = (any-once, kept, left_out, without_own, with_own)
+pub ruleset owned = (restricted-once, kept, left_out, one_more, append-nil, without_own, with_own)

@@ -1,5 +1,5 @@
 -- Each step of the walk, and what all of them come to.
-use Rattle.std.proofs.Common.{◌≡◌, ◌||◌, ◌⊎◌, inl, inr, ℕ, Bool, true, false, cond, List, [], ◌∷◌, ◌++◌, bytes_eq, append_assoc, append-nil, Option, Some, None, if◌then◌else◌, refl, sym, ap, ◌∙◌, subst}
+use Rattle.std.proofs.Common.{◌≡◌, ◌||◌, ◌⊎◌, inl, inr, ℕ, Bool, true, false, cond, List, [], ◌∷◌, ◌++◌, bytes_eq, append_assoc, append-nil, is_some, Option, Some, None, Result, Ok, Err, OnOk, if◌then◌else◌, refl, sym, ap, ◌∙◌, subst}
 use Rattle.std.specs.List.{list_any}
 use Rattle.lisp_data.specs.Values.{Name}
 use Rattle.terms.specs.Terms.{Tm, Var, Quote, Call, Tms, Done, More}
@@ -171,6 +171,14 @@ module _ (of_name : Name → List Name) where
       ready_join (measure_visits but d.measure) (visits but d.body) found (ready_measure but d.measure (after of_name (visits but d.body) found)) (ready_visits but d.body found)
 
 -- ---- steps
+itself-some : (f : Name) (o : Option ℕ) → is_some o ≡ true → itself f o ≡ f ∷ []
+itself-some f None h = absurd (cc)
+itself-some f (Some k) h = refl
+
+itself-none : (f : Name) (o : Option ℕ) → is_some o ≡ false → itself f o ≡ []
+itself-none f None h = refl
+itself-none f (Some k) h = absurd (cc)
+
 module _ (W : World) where
   abbrev D : Name → List Name
   D = function_dependence W
@@ -195,15 +203,15 @@ module _ (W : World) where
     was_done e h = λ all c. found_now (e ∙ sym (joined_covered old.found (D f) (c.done f h))) all c
 
     -- a function variable depends on itself
-    pub met_variable : (k : ℕ) → find W.functions.defs f ≡ None → lookup W.functions.vars f ≡ Some k → new.found ≡ with_name f old.found → FollowsVisit W f old new
-    met_variable k none v e =
-        let is : D f ≡ f ∷ [] = not_defined W.functions.vars W.functions.defs f none ∙ ap (itself f) v in
+    pub met_variable : find W.functions.defs f ≡ None → is_some (lookup W.functions.vars f) ≡ true → new.found ≡ with_name f old.found → FollowsVisit W f old new
+    met_variable none v e =
+        let is : D f ≡ f ∷ [] = not_defined W.functions.vars W.functions.defs f none ∙ itself-some f (lookup W.functions.vars f) v in
         found_now (e ∙ sym (ap (joined old.found) is))
 
     -- what is no function depends on nothing
-    pub met_nothing : find W.functions.defs f ≡ None → lookup W.functions.vars f ≡ None → new.found ≡ old.found → FollowsVisit W f old new
+    pub met_nothing : find W.functions.defs f ≡ None → is_some (lookup W.functions.vars f) ≡ false → new.found ≡ old.found → FollowsVisit W f old new
     met_nothing none v e =
-        let is : D f ≡ [] = not_defined W.functions.vars W.functions.defs f none ∙ ap (itself f) v in
+        let is : D f ≡ [] = not_defined W.functions.vars W.functions.defs f none ∙ itself-none f (lookup W.functions.vars f) v in
         found_now (e ∙ sym (ap (joined old.found) is))
 
   -- a function's definition is entered
@@ -246,9 +254,10 @@ module _ (W : World) where
         subst (λ l. AreReady D l new.found) (sym is_left)
         (subst (AreReady D old.left.items) (sym is_found) (ready_parts D old.left.items (Leave f ∷ []) old.found c.ready).0);
     done = λ g h. subst (λ l. Covers l (D g)) (sym is_found)
-        (elim (has_either f old.done.keys g (ap (list_any (bytes_eq g)) (sym is_done) ∙ h))
-        [ inl same ↦ subst (λ x. Covers old.found (D x)) same (ready_parts D old.left.items (Leave f ∷ []) old.found c.ready).1.0
-        | inr before ↦ c.done g before ]);
+        (elim (has_either f old.done.keys g (ap (list_any (bytes_eq g)) (sym is_done) ∙ h)) [
+          | inl same ↦ subst (λ x. Covers old.found (D x)) same (ready_parts D old.left.items (Leave f ∷ []) old.found c.ready).1.0
+          | inr before ↦ c.done g before
+        ]);
   }
 
 -- the next task is taken
@@ -269,4 +278,28 @@ begins W w r d = record { found = refl; ready = r; done = λ f h. let e : list_a
 pub over : (W : World) (all : List Name) (w : Walk) → ComesTo W all [] w → w.found ≡ all
 over W all w c = c.found
 
-pub ruleset walking = (was_done, met_variable, met_nothing, met_function, left_function)
+-- visits alone are ready, and find what terms depend on
+pub ready_alone : (W : World) (but : Option Name) (none left : List Task) (ts : Tms) (found : List Name) → none ≡ [] → left ≡ none ++ visits_all but ts →
+    AreReady (function_dependence W) left found
+ready_alone W but none left ts found e h =
+    subst (λ l. AreReady (function_dependence W) l found) (sym (h ∙ ap (λ l. l ++ visits_all but ts) e)) (ready_all_visits (function_dependence W) but ts found)
+
+pub found_alone : (W : World) (none left : List Task) (found : List Name) (ts : Tms) → none ≡ [] → found ≡ [] → left ≡ none ++ visits_all None ts →
+    after (function_dependence W) left found ≡ joined [] (terms_dependence (function_dependence W) ts)
+found_alone W none left found ts e f h =
+    (λ i. after (function_dependence W) ((h ∙ ap (λ l. l ++ visits_all None ts) e) i) (f i)) ∙ after_all_visits (function_dependence W) None ts []
+
+pub ready_one : (W : World) (but : Option Name) (none left : List Task) (t : Tm) (found : List Name) → none ≡ [] → left ≡ none ++ visits but t →
+    AreReady (function_dependence W) left found
+ready_one W but none left t found e h =
+    subst (λ l. AreReady (function_dependence W) l found) (sym (h ∙ ap (λ l. l ++ visits but t) e)) (ready_visits (function_dependence W) but t found)
+
+pub found_one : (W : World) (none left : List Task) (found : List Name) (t : Tm) → none ≡ [] → found ≡ [] → left ≡ none ++ visits None t →
+    after (function_dependence W) left found ≡ joined [] (term_dependence (function_dependence W) t)
+found_one W none left found t e f h =
+    (λ i. after (function_dependence W) ((h ∙ ap (λ l. l ++ visits None t) e) i) (f i)) ∙ after_visits (function_dependence W) None t []
+
+-- what follows from three facts of a success
+pub on_ok_three : {A E P Q R S : Type 0} (r : Result A E) → (P → Q → R → S) → OnOk r P → OnOk r Q → OnOk r R → OnOk r S
+on_ok_three (Ok x) f p q s = f p q s
+on_ok_three (Err e) f p q s = tt

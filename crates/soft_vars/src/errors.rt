@@ -5,7 +5,8 @@ use lisp_data::{Code, Detail, Memory, Symbol};
 /// Why some pairs give no map.
 #[derive(Drop)]
 pub enum SoftError {
-    /// The pairs are refused, or a function has no recorded instance for them (docs/MODEL.md, "Function variables and instances").
+    /// The pairs are refused, or a function has no recorded instance for them (docs/MODEL.md, "Function variables and
+    /// instances").
     Refused { code: Code, detail: Detail },
     Memory,
 }

@@ -1,6 +1,6 @@
 //! The map that pairs give, by the instances that are recorded, and the instances of functions.
 
-ghost use Rattle.std.specs.Prelude.{◌≡◌, ◌∷◌, [], IfOk, OnOk, IsSome, IfSome};
+ghost use Rattle.std.specs.Prelude.{◌≡◌, [], ◌∷◌, ◌++◌, IfOk, OnOk, IsSome, IfSome};
 ghost use Rattle.std.specs.Option.{option_map};
 ghost use Rattle.terms.specs.Definitions.{find};
 ghost use Rattle.terms.specs.Terms.{tms};
@@ -13,9 +13,9 @@ use crate::map::{NameMap, instantiate_term};
 use crate::pairs::with_pairs;
 use crate::walk::{dependence, has};
 use indexmap::IndexSet;
-use lisp_data::{Memory, Symbol};
+use lisp_data::{Memory, Symbol, Symbols};
 use std::alloc::Global;
-use terms::{Definition, FunPairs, Node, Term, Terms};
+use terms::{Definition, FunPair, FunPairs, Node, Term, Terms};
 use worlds::World;
 
 #[cycle(calls)]
@@ -45,6 +45,22 @@ fn add_calls(term: &Term, found: &mut IndexSet<Symbol>) -> Result<(), Memory>
     }
 }
 
+/// Adds the pair where its variable is among these.
+#[tactic(auto, using(crate::proofs::Owned::owned))]
+fn add_pair(
+    alloc: Global,
+    variables: &Symbols,
+    pair: &FunPair,
+    pairs: &mut FunPairs,
+) -> Result<(), Memory>
+    ensures { OnOk result (pairs.new ≡ pairs.old ++ spec.restricted (pair.now ∷ []) variables.now) }
+{
+    if has(variables, &pair.variable) {
+        pairs.push(pair.copy(alloc)?)?;
+    }
+    Ok(())
+}
+
 /// The pairs of the variables on which the function depends.
 #[tactic(auto, using(crate::proofs::Owned::owned))]
 fn own_pairs(
@@ -58,9 +74,7 @@ fn own_pairs(
     let variables = dependence(alloc, world, name)?;
     let mut own = FunPairs::new(alloc);
     for pair in pairs.as_slice() {
-        if has(&variables, &pair.variable) {
-            own.push(pair.copy(alloc)?)?;
-        }
+        add_pair(alloc, &variables, pair, &mut own)?;
     }
     Ok(own)
 }
@@ -108,7 +122,8 @@ fn map_from(
 }
 
 /// The map that pairs of a function variable and a function give for some terms: each variable becomes its function,
-/// and each function that depends on one of them its recorded instance (docs/MODEL.md, "Function variables and instances").
+/// and each function that depends on one of them its recorded instance (docs/MODEL.md, "Function variables and
+/// instances").
 pub fn instance_map(
     alloc: Global,
     world: &World,
@@ -122,10 +137,7 @@ pub fn instance_map(
     map_from(alloc, world, NameMap::new(alloc), pairs, &called)
 }
 
-fn add_calls_of_parts(
-    definition: &Definition,
-    found: &mut IndexSet<Symbol>,
-) -> Result<(), Memory>
+fn add_calls_of_parts(definition: &Definition, found: &mut IndexSet<Symbol>) -> Result<(), Memory>
     ensures { OnOk result (found.new.keys ≡ spec.with_calls_in (tms (spec.parts definition.now)) found.old.keys) }
 {
     add_calls(&definition.body, found)?;
@@ -165,7 +177,8 @@ fn renamed(
 }
 
 /// The instance of a function with a definition, under a new name: its body and its measure under the map that the
-/// pairs give for both, in which the function itself becomes the new one (docs/MODEL.md, "Function variables and instances").
+/// pairs give for both, in which the function itself becomes the new one (docs/MODEL.md, "Function variables and
+/// instances").
 pub fn instantiate_function(
     alloc: Global,
     world: &World,

@@ -109,7 +109,8 @@ fn instantiate_terms(alloc: Global, terms: &[Term], map: &NameMap) -> Result<Ter
     Ok(images)
 }
 
-/// The term under the map: all names of its functions are replaced at once (docs/MODEL.md, "Function variables and instances").
+/// The term under the map: all names of its functions are replaced at once (docs/MODEL.md, "Function variables and
+/// instances").
 #[cycle(rename)]
 #[tactic(auto, using(crate::proofs::Renaming::renaming))]
 pub fn instantiate_term(alloc: Global, term: &Term, map: &NameMap) -> Result<Term, Memory>

@@ -1,15 +1,15 @@
 //! Which functions can stand for which function variables.
 
 ghost use Rattle.std.specs.Prelude.{◌≡◌};
-ghost use Rattle.terms.specs.Primitives.{lookup};
 ghost use Rattle.soft_vars.specs.Pairs as spec;
 ghost use Rattle.soft_vars.specs.Answers.{Says};
 
 use crate::errors::SoftError;
 use crate::map::NameMap;
+use crate::walk::variable_arity;
 use lisp_data::Symbol;
 use terms::{FunPair, FunPairs};
-use worlds::{Named, World};
+use worlds::World;
 
 /// Whether the name stands for something in the world.
 #[tactic(auto, using(crate::proofs::Known::known))]
@@ -17,16 +17,6 @@ fn is_known(world: &World, name: &Symbol) -> bool
     ensures { result ≡ spec.is_known world.now name.now }
 {
     world.named(name).is_some()
-}
-
-/// How many arguments the function variable of this name takes.
-fn variable_arity(world: &World, name: &Symbol) -> Option<usize>
-    ensures { result ≡ lookup world.now.functions.vars name.now }
-{
-    match world.named(name) {
-        Some(Named::Variable(arity)) => Some(arity as usize),
-        _ => None,
-    }
 }
 
 /// Checks that both names are known, and that the function takes as many arguments as the function variable.

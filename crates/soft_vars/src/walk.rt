@@ -3,7 +3,7 @@
 ghost use Rattle.std.specs.Prelude.{◌≡◌, [], ◌∷◌, ◌++◌, bytes_eq, not, IfOk, OnOk};
 ghost use Rattle.std.specs.List.{list_any};
 ghost use Rattle.std.specs.Option.{option_copied};
-ghost use Rattle.terms.specs.Definitions.{find};
+ghost use Rattle.terms.specs.Primitives.{lookup};
 ghost use Rattle.terms.specs.Terms.{tms};
 ghost use Rattle.terms.specs.Variables.{with_name};
 ghost use Rattle.soft_vars.specs.Dependents as spec;
@@ -34,6 +34,16 @@ struct Walk {
     done: IndexSet<Symbol>,
     /// The function variables that were met, in this order.
     found: Symbols,
+}
+
+/// How many arguments the function variable of this name takes.
+pub(crate) fn variable_arity(world: &World, name: &Symbol) -> Option<usize>
+    ensures { result ≡ lookup world.now.functions.vars name.now }
+{
+    match world.named(name) {
+        Some(Named::Variable(arity)) => Some(arity as usize),
+        _ => None,
+    }
 }
 
 /// Whether the name is another than this one.
@@ -67,11 +77,7 @@ fn add_visits(but: Option<&Symbol>, term: &Term, left: &mut Vec<Task>) -> Result
 
 #[cycle(visits)]
 #[tactic(auto, using(crate::proofs::Visits::added))]
-fn add_all_visits(
-    but: Option<&Symbol>,
-    terms: &[Term],
-    left: &mut Vec<Task>,
-) -> Result<(), Memory>
+fn add_all_visits(but: Option<&Symbol>, terms: &[Term], left: &mut Vec<Task>) -> Result<(), Memory>
     ensures { OnOk result (left.new.items ≡ left.old.items ++ visits_all (option_copied but.entry) (tms terms.now)) }
 {
     for i in 0..terms.len() {
@@ -134,7 +140,6 @@ impl Walk {
         add_visits(Some(&name), &definition.body, &mut self.left)
     }
 
-    #[tactic(auto, using(crate::proofs::Walking::walking))]
     fn visit(&mut self, world: &World, name: Symbol) -> Result<(), Memory>
         ensures { OnOk result (FollowsVisit world.now name self.old self.new) }
     {
@@ -142,14 +147,15 @@ impl Walk {
         if self.done.contains(&name) {
             return Ok(());
         }
-        match world.named(&name) {
-            Some(Named::Variable(_)) => add_name(name, &mut self.found),
-            Some(Named::Definition(definition)) => self.enter(name, definition),
-            _ => Ok(()),
+        if let Some(definition) = world.find_definition(&name) {
+            return self.enter(name, definition);
         }
+        if variable_arity(world, &name).is_some() {
+            return add_name(name, &mut self.found);
+        }
+        Ok(())
     }
 
-    #[tactic(auto, using(crate::proofs::Walking::walking))]
     fn act(&mut self, world: &World, task: Task) -> Result<(), Memory>
         ensures { OnOk result (Follows world.now task self.old self.new) }
     {
@@ -199,7 +205,8 @@ pub fn variables_in(alloc: Global, world: &World, terms: &Terms) -> Result<Symbo
 }
 
 /// The function variables on which a function, its definition's body and then its measure, or a specification's matrix
-/// depends; of a function variable that variable, and of another name none (docs/MODEL.md, "Function variables and instances").
+/// depends; of a function variable that variable, and of another name none (docs/MODEL.md, "Function variables and
+/// instances").
 pub fn variables_of(alloc: Global, world: &World, name: &Symbol) -> Result<Symbols, Memory>
     ensures { IfOk result (λ xs. xs ≡ spec.variables_of world.now name.now) }
 {
