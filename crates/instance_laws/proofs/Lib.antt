@@ -1,0 +1,10 @@
+pub mod Values
+pub mod Members
+pub mod Formed
+pub mod Parts
+pub mod Sequents
+pub mod Renaming
+pub mod Owed
+pub mod Owes
+pub mod Stay
+pub mod Grow

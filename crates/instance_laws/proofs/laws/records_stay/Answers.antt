@@ -1,0 +1,5 @@
+use Rattle.instance_laws.proofs.Stay.{records_stay}
+use Rattle.instance_laws.proofs.laws.records_stay.Goals as goal
+
+pub returns : goal.returns
+returns c = records_stay

@@ -1,0 +1,3 @@
+-- Names that crates above use.
+pub mod Closed
+pub mod Laws
