@@ -11,7 +11,7 @@ use Rattle.terms.specs.Sound.{Sound, add_definition, add_instance}
 use Rattle.terms.specs.declared.definition.Definition.{Definition}
 use Rattle.terms.specs.declared.sequent.Sequent.{Sequent}
 use Rattle.terms.specs.declared.entries.FunPair.{FunPair}
-use Rattle.soft_vars.specs.Maps.{NamePairs, rename}
+use Rattle.soft_vars.specs.Maps.{NamePairs, HasDistinctNames, rename}
 use Rattle.soft_vars.specs.Instances.{map_from, instance_map, function_instance, sequent_terms, renamed_sequent, IsRecorded, AreRecorded}
 use Rattle.instance_laws.specs.Closed.{extended, CallsOnly, IsClosed, IsPart}
 
@@ -25,7 +25,7 @@ InstancesHaveValues =
 -- a map that pairs give in a sound world with right records is part of one that is closed under calls
 abbrev pub MapsArePart : Type 0
 MapsArePart =
-    (W : World) → Sound W → AreRecorded W → (begun : NamePairs) (pairs : List FunPair) (fs : List Name) (m : NamePairs) →
+    (W : World) → Sound W → AreRecorded W → (begun : NamePairs) → HasDistinctNames begun → (pairs : List FunPair) (fs : List Name) (m : NamePairs) →
     map_from W begun pairs fs ≡ Ok m → IsPart W.functions begun fs m
 
 -- what the instance of a sequent is: it fits the world, and holds where the sequent does
