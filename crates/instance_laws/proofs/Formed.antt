@@ -34,7 +34,7 @@ pub record IsFoundFormed (F : Functions) (d : Definition) : Type 0 where
   pub measured : mentions d.name d.body ≡ true → is_some d.measure ≡ true
   pub flat : is_nested d.name d.body ≡ false
 
-if_some_map : {A : Type 0} (P Q : A → Type 0) → ((x : A) → P x → Q x) → (o : Option A) → IfSome o P → IfSome o Q
+pub if_some_map : {A : Type 0} (P Q : A → Type 0) → ((x : A) → P x → Q x) → (o : Option A) → IfSome o P → IfSome o Q
 if_some_map P Q f None h = tt
 if_some_map P Q f (Some x) h = f x h
 

@@ -7,4 +7,5 @@ pub mod Renaming
 pub mod Owed
 pub mod Owes
 pub mod Stay
+pub mod LaterMaps
 pub mod Grow

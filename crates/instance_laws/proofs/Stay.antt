@@ -99,7 +99,7 @@ module _ (P : Name → Type 0) where
     calls_each (Quote v) o found h = h
     calls_each (Call g ts) o found h = all_calls_each ts o.1 (with_name g found) (with_name_each g found h o.0)
 
-    all_calls_each : (ts : Tms) → OverAll Any (λ g k. P g) ts → (found : List Name) → Each P found → Each P (with_calls_in ts found)
+    pub all_calls_each : (ts : Tms) → OverAll Any (λ g k. P g) ts → (found : List Name) → Each P found → Each P (with_calls_in ts found)
     all_calls_each Done o found h = h
     all_calls_each (More t ts) o found h = all_calls_each ts o.1 (with_calls t found) (calls_each t o.0 found h)
 
@@ -108,7 +108,7 @@ module _ (P : Name → Type 0) where
   listed_each (Some t) k found h = calls_each t k found h
 
 -- the names that a definition of the world calls
-parts_each : (W : World) → Sound W → (d : Definition) → find W.functions.defs d.name ≡ Some d → Each (HasArity W.functions) (called (parts d))
+pub parts_each : (W : World) → Sound W → (d : Definition) → find W.functions.defs d.name ≡ Some d → Each (HasArity W.functions) (called (parts d))
 parts_each W sound d found =
     let F = W.functions in
     let known = found_formed F.vars F.defs sound.formed d.name d found in
@@ -167,7 +167,7 @@ module _ (W V : World) (sound : Sound W) (sound_later : Sound V) (stay : Stays W
         let r = then_ok (with_instance W pairs m f) (λ k. with_instances W pairs k fs) n e in
         ap (λ o. and_then o (λ k. with_instances V pairs k fs)) (instance_later m r.0 f h.0 r.1) ∙ instances_later r.0 n fs h.1 r.2
 
-    map_later : (begun m : NamePairs) (fs : List Name) → Each (HasArity W.functions) fs → map_from W begun pairs fs ≡ Ok m → map_from V begun pairs fs ≡ Ok m
+    pub map_later : (begun m : NamePairs) (fs : List Name) → Each (HasArity W.functions) fs → map_from W begun pairs fs ≡ Ok m → map_from V begun pairs fs ≡ Ok m
     map_later begun m fs h e =
         let r = then_ok (with_pairs W begun pairs) (λ k. with_instances W pairs k fs) m e in
         let fit = pairs_fit W begun pairs r.0 r.1 in

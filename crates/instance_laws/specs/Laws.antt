@@ -53,6 +53,12 @@ InstancesOwe =
 abbrev pub RecordsStay : Type 0
 RecordsStay = (W V : World) → Sound W → Sound V → IsLater W V → (r : Instance) → IsRecorded W r → IsRecorded V r
 
+-- what pairs give for the terms of a sequent they give, the same, in each later sound world
+abbrev pub MapsStay : Type 0
+MapsStay =
+    (W V : World) → Sound W → Sound V → IsLater W V → (s : Sequent) → FitsSequent W.functions s → (pairs : List FunPair) (m : NamePairs) →
+    instance_map W (sequent_terms s) pairs ≡ Ok m → instance_map V (sequent_terms s) pairs ≡ Ok m
+
 -- a sound world with right records stays such with the instance of a definition and its record
 abbrev pub with_instance : Definition → List FunPair → Definition → World → World
 with_instance d pairs i W = add_instance d.name pairs i.name (add_definition i W)

@@ -1,6 +1,6 @@
 //! Laws of instances, each the contract of a function that does nothing.
 
-ghost use Rattle.instance_laws.specs.Laws.{InstancesHaveValues, MapsArePart, InstancesHold, InstancesOwe, RecordsStay, WorldsGrowByInstances};
+ghost use Rattle.instance_laws.specs.Laws.{InstancesHaveValues, MapsArePart, InstancesHold, InstancesOwe, RecordsStay, MapsStay, WorldsGrowByInstances};
 
 /// A term under a map that is closed under calls has the value that the term has where function variables stand for what
 /// the map gives.
@@ -26,6 +26,11 @@ pub fn instances_owe()
 /// A right record stays right in each later world.
 pub fn records_stay()
     ensures { RecordsStay }
+{}
+
+/// What pairs give for a sequent they give in each later world.
+pub fn maps_stay()
+    ensures { MapsStay }
 {}
 
 /// A sound world with right records stays such with the instance of a definition and its record.

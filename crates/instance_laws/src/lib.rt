@@ -4,5 +4,6 @@
 mod laws;
 
 pub use laws::{
-    instances_have_values, instances_hold, instances_owe, maps_are_part, records_stay, worlds_grow_by_instances,
+    instances_have_values, instances_hold, instances_owe, maps_are_part, maps_stay, records_stay,
+    worlds_grow_by_instances,
 };
