@@ -1,0 +1,10 @@
+pub mod Renaming
+pub mod Visits
+pub mod Walking
+pub mod Depends
+pub mod Keys
+pub mod Known
+pub mod Calls
+pub mod Owned
+pub mod Fitting
+pub mod Maps
