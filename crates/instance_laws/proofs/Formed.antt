@@ -1,13 +1,12 @@
 -- What is known of the definitions of a well-formed world, and of what they call.
-use Rattle.std.proofs.Common.{◌≡◌, ℕ, Bool, true, false, cond, ◌||◌, List, [], ◌∷◌, ◌++◌, length, is_some, bytes_eq, Option, Some, None, IfSome, refl, sym, ap, ◌∙◌, subst}
+use Rattle.std.proofs.Common.{◌≡◌, ℕ, Bool, true, false, cond, ◌||◌, List, [], ◌∷◌, ◌++◌, is_some, bytes_eq, Option, Some, None, IfSome, refl, sym, ap, ◌∙◌, subst}
 use Rattle.lisp_data.specs.Values.{Name}
-use Rattle.terms.specs.Primitives.{lookup}
-use Rattle.terms.specs.Terms.{Tm, Var, Quote, Call, Tms, Done, More, count, Over, OverAll}
+use Rattle.terms.specs.Terms.{Tm, Var, Quote, Call, Tms, Done, More, Over, OverAll}
 use Rattle.terms.specs.Definitions.{find}
 use Rattle.terms.specs.Dependence.{term_dependence, terms_dependence, measure_dependence, dependence}
 use Rattle.terms.specs.Measures.{mentions, is_nested}
 use Rattle.terms.specs.Worlds.{Functions, arity, is_in, Distinct, IsIn, Each}
-use Rattle.terms.specs.Formed.{functions, with_def, FitsOver, AllFormed}
+use Rattle.terms.specs.Formed.{functions, FitsOver, AllFormed}
 use Rattle.terms.specs.declared.definition.Definition.{Definition}
 use Rattle.terms.proofs.Names.{same_name}
 use Rattle.terms.proofs.Below.{Any}

@@ -1,8 +1,7 @@
 -- A sound world with right records stays such with the instance of a definition and its record.
-use Rattle.std.proofs.Common.{◌≡◌, cond, List, [], ◌∷◌, ◌++◌, bytes_eq, Some, Ok, refl, sym, ap, ◌∙◌, subst}
-use Rattle.lisp_data.specs.Values.{Name}
+use Rattle.std.proofs.Common.{◌≡◌, cond, List, [], ◌∷◌, Some, Ok, sym, ap, subst}
 use Rattle.terms.specs.Definitions.{find}
-use Rattle.terms.specs.Worlds.{World, Instance, IsIn, names, arity}
+use Rattle.terms.specs.Worlds.{World, IsIn, names}
 use Rattle.terms.specs.Later.{IsLater}
 use Rattle.terms.specs.Sound.{Sound, add_definition, instance_of}
 use Rattle.terms.specs.declared.definition.Definition.{Definition}

@@ -1,8 +1,7 @@
 -- What pairs give for a sequent they give in each later sound world.
-use Rattle.std.proofs.Common.{◌≡◌, List, [], ◌∷◌, ◌++◌, Some, Ok}
-use Rattle.lisp_data.specs.Values.{Name}
-use Rattle.terms.specs.Terms.{Tm, Over, OverAll, tms}
-use Rattle.terms.specs.Worlds.{Functions, World, FitsSequent, Each, arity, Fits}
+use Rattle.std.proofs.Common.{◌≡◌, List, [], ◌∷◌, ◌++◌, Some}
+use Rattle.terms.specs.Terms.{Tm, OverAll, tms}
+use Rattle.terms.specs.Worlds.{Functions, FitsSequent, Each, arity, Fits}
 use Rattle.terms.specs.declared.sequent.Sequent.{Sequent}
 use Rattle.terms.proofs.Below.{Any}
 use Rattle.terms.proofs.Extend.{over_map}

@@ -1,12 +1,12 @@
 -- Lists of pairs as sets, and what looking up a name in them gives.
-use Rattle.std.proofs.Common.{◌≡◌, ℕ, Bool, true, false, cond, ◌&&◌, ◌||◌, List, [], ◌∷◌, map, bytes_eq, Option, Some, None, refl, sym, ap, ap₂, ◌∙◌, subst}
+use Rattle.std.proofs.Common.{◌≡◌, Bool, true, false, cond, ◌&&◌, ◌||◌, List, [], ◌∷◌, bytes_eq, Some, None, refl, sym, ap, ap₂, ◌∙◌, subst}
 use Rattle.std.proofs.lemmas.Bool.{and_parts, and_from}
 use Rattle.lisp_data.specs.Values.{Name}
 use Rattle.terms.specs.Primitives.{lookup}
 use Rattle.terms.specs.Worlds.{World, Instance, is_in}
 use Rattle.terms.specs.declared.entries.FunPair.{FunPair}
 use Rattle.terms.proofs.Names.{same_name, name_self}
-use Rattle.worlds.specs.Lookups.{same_pair, has_pair, has_pairs, same_pairs, is_instance, find_instance}
+use Rattle.worlds.specs.Lookups.{same_pair, has_pair, has_pairs, same_pairs, find_instance}
 use Rattle.soft_vars.specs.Maps.{HasDistinctNames}
 use Rattle.soft_vars.specs.Pairs.{name_pairs}
 use Rattle.soft_vars.specs.Instances.{restricted, recorded}

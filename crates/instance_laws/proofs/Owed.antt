@@ -1,13 +1,12 @@
 -- An instance can be added, and its obligations follow from those of its origin.
-use Rattle.std.proofs.Common.{◌≡◌, ℕ, Bool, true, false, cond, List, [], ◌∷◌, length, map, is_some, bytes_eq, codes, Option, Some, None, IfSome, refl, sym, ap, ap₂, ◌∙◌, subst}
+use Rattle.std.proofs.Common.{◌≡◌, ℕ, Bool, true, false, cond, List, [], ◌∷◌, length, is_some, bytes_eq, codes, Option, Some, None, IfSome, refl, sym, ap, ap₂, ◌∙◌, subst}
 use Rattle.std.specs.Option.{option_map}
 use Rattle.lisp_data.specs.Values.{Name, Val}
-use Rattle.terms.specs.Primitives.{Operation, Three, choose, primitive, lookup}
+use Rattle.terms.specs.Primitives.{Three, choose, lookup}
 use Rattle.terms.specs.Terms.{Tm, Var, Quote, Call, Tms, Done, More, count, Over, OverAll, substitute, by_args}
 use Rattle.terms.specs.Definitions.{find, Interp}
 use Rattle.terms.specs.Worlds.{Functions, FitsSequent, arity, arity_by, is_in, IsIn, Each, TotalFor, Total, IsTrueAt, Holds}
-use Rattle.terms.specs.Measures.{mentions, is_nested, call1, call2, RecursiveCall, recursive_calls, is_natural, falls, owed_by, obligations}
-use Rattle.terms.specs.Joins.{without_repeats}
+use Rattle.terms.specs.Measures.{mentions, call1, call2, RecursiveCall, recursive_calls, is_natural, falls, owed_by, obligations}
 use Rattle.terms.specs.Formed.{with_def, FitsOver, IsFormed, AllFormed, VarsApart, ObligationsHold}
 use Rattle.terms.specs.Sound.{AllHold}
 use Rattle.terms.specs.declared.definition.Definition.{Definition}

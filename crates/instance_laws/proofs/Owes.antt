@@ -1,13 +1,12 @@
 -- The instance of a definition of a sound world can be added, and what it owes holds.
-use Rattle.std.proofs.Common.{◌≡◌, ◌≢◌, ℕ, Bool, true, false, cond, List, [], ◌∷◌, bytes_eq, codes, Option, Some, None, IfSome, Ok, refl, sym, ap, ◌∙◌, subst}
+use Rattle.std.proofs.Common.{◌≡◌, ℕ, true, false, List, [], ◌∷◌, bytes_eq, codes, Option, Some, None, IfSome, refl, sym, ap, ◌∙◌, subst}
 use Rattle.lisp_data.specs.Values.{Name}
 use Rattle.terms.specs.Primitives.{Operation, primitive}
 use Rattle.terms.specs.Terms.{Tm, Var, Quote, Call, Tms, Done, More, Over, OverAll}
 use Rattle.terms.specs.Definitions.{find}
 use Rattle.terms.specs.BuiltIn.{not_def, natp_def, initial_definitions, list_definitions, number_definitions, truth_definitions}
-use Rattle.terms.specs.Dependence.{dependence}
 use Rattle.terms.specs.Measures.{mentions, obligations}
-use Rattle.terms.specs.Worlds.{Functions, World, arity, is_in, IsIn}
+use Rattle.terms.specs.Worlds.{Functions, World, arity, IsIn}
 use Rattle.terms.specs.Formed.{IsFormed, HasBasics, ObligationsHold}
 use Rattle.terms.specs.Sound.{Sound, AllHold}
 use Rattle.terms.specs.declared.definition.Definition.{Definition}
@@ -19,9 +18,8 @@ use Rattle.terms.proofs.Extend.{body_fits}
 use Rattle.terms.proofs.Meaning.{found_free, arity_defined}
 use Rattle.terms.proofs.Basics.{is_less}
 use Rattle.terms.proofs.Later.{vars_apart, has_basics, sound_worlds_keep_initial}
-use Rattle.soft_vars.specs.Maps.{image, renamed}
-use Rattle.soft_vars.specs.Instances.{restricted, own_pairs, function_instance, AreRecorded}
-use Rattle.instance_laws.specs.Closed.{IsClosed, KeepsArities}
+use Rattle.soft_vars.specs.Maps.{renamed}
+use Rattle.soft_vars.specs.Instances.{restricted, own_pairs, AreRecorded}
 use Rattle.instance_laws.specs.Laws.{InstancesOwe, InstanceOfDefinition}
 use Rattle.instance_laws.proofs.Formed.{IsFoundFormed, found_formed, each_found}
 use Rattle.instance_laws.proofs.Parts.{whole_map, whole_list, in_whole, whole_closed, whole_keeps, whole_stays, whole_covers, AreGood, IsCovered, InstanceMade, instance_made}

@@ -1,6 +1,6 @@
 -- The map that pairs give in a sound world with right records is part of one that is closed under calls: the table of all definitions, each
 -- with its recorded instance for its own pairs, and of the pairs.
-use Rattle.std.proofs.Common.{◌≡◌, ℕ, Bool, true, false, cond, ◌&&◌, ◌||◌, List, [], ◌∷◌, ◌++◌, map, is_some, bytes_eq, Option, Some, None, IfSome, Ok, Err, refl, sym, ap, ap₂, ◌∙◌, subst}
+use Rattle.std.proofs.Common.{◌≡◌, ℕ, Bool, true, false, cond, ◌||◌, List, [], ◌∷◌, ◌++◌, is_some, bytes_eq, Option, Some, None, IfSome, Ok, Err, refl, sym, ap, ap₂, ◌∙◌, subst}
 use Rattle.std.proofs.lemmas.Bool.{and_parts, and_from}
 use Rattle.std.specs.Option.{option_map}
 use Rattle.lisp_data.specs.Values.{Name}
@@ -8,8 +8,7 @@ use Rattle.terms.specs.Primitives.{Operation, primitive, lookup}
 use Rattle.terms.specs.Terms.{Tm, Var, Quote, Call, Tms, Done, More, Over, OverAll}
 use Rattle.terms.specs.Definitions.{find}
 use Rattle.terms.specs.Dependence.{itself, dependence}
-use Rattle.terms.specs.Worlds.{Functions, World, Instance, Each, arity, arity_by, is_in, IsIn}
-use Rattle.terms.specs.Formed.{AllFormed, VarsApart}
+use Rattle.terms.specs.Worlds.{Functions, World, Instance, Each, arity, arity_by, is_in}
 use Rattle.terms.specs.Sound.{Sound}
 use Rattle.terms.specs.declared.definition.Definition.{Definition}
 use Rattle.terms.specs.declared.entries.FunPair.{FunPair}
@@ -22,16 +21,16 @@ use Rattle.worlds.specs.Lookups.{same_pairs, is_instance, find_instance}
 use Rattle.soft_vars.specs.Maps.{NamePairs, HasDistinctNames, or_name, image, rename, rename_all, renamed}
 use Rattle.soft_vars.specs.Refusals.{Outcome, map_outcome}
 use Rattle.soft_vars.specs.Pairs.{with_pairs, name_pairs, IsFitting}
-use Rattle.soft_vars.specs.Instances.{with_instances, called, listed, restricted, own_pairs, recorded, map_from, parts, function_instance, IsRecorded, AreRecorded}
-use Rattle.soft_vars.specs.Laws.{AreFitting, GivesInstances}
+use Rattle.soft_vars.specs.Instances.{with_instances, called, listed, own_pairs, recorded, map_from, parts, function_instance, IsRecorded, AreRecorded}
+use Rattle.soft_vars.specs.Laws.{GivesInstances}
 use Rattle.soft_vars.proofs.Depends.{not_defined}
 use Rattle.soft_vars.proofs.Keys.{lookup-behind}
 use Rattle.soft_vars.proofs.Fitting.{then_ok, ok_inj, pairs_fit}
 use Rattle.soft_vars.proofs.Maps.{maps_give_instances}
 use Rattle.soft_vars.proofs.Calls.{calls_are_called}
-use Rattle.instance_laws.specs.Closed.{CallsOnly, HasImage, IsClosed, KeepsArities, IsPart}
+use Rattle.instance_laws.specs.Closed.{HasImage, IsClosed, KeepsArities}
 use Rattle.instance_laws.specs.Laws.{MapsArePart}
-use Rattle.instance_laws.proofs.Members.{has_named, Within, Alike, alike, recorded_alike, no_pairs, has_restricted, has_looked_up, looked_up}
+use Rattle.instance_laws.proofs.Members.{has_named, Alike, alike, recorded_alike, no_pairs, has_restricted, has_looked_up, looked_up}
 use Rattle.instance_laws.proofs.Formed.{over_both, found_name, DependsOnNoMore, callees_depend}
 
 -- what a function becomes for its own pairs, if it has what it needs

@@ -1,6 +1,6 @@
 -- A body under a map in which its function becomes a new one: its recursive calls are those of the function under the map, each with at
 -- least the tests that it had; a variable that becomes `if` adds some.
-use Rattle.std.proofs.Common.{◌≡◌, ℕ, Bool, true, false, cond, not, ◌&&◌, ◌||◌, List, [], ◌∷◌, ◌++◌, bytes_eq, codes, Option, Some, None, refl, sym, ap, ap₂, ◌∙◌, subst}
+use Rattle.std.proofs.Common.{◌≡◌, ℕ, Bool, true, false, cond, not, ◌&&◌, ◌||◌, List, [], ◌∷◌, ◌++◌, bytes_eq, codes, Some, refl, sym, ap, ap₂, ◌∙◌, subst}
 use Rattle.std.proofs.lemmas.Bool.{or_parts, and_parts, not-true}
 use Rattle.lisp_data.specs.Values.{Name}
 use Rattle.terms.specs.Primitives.{lookup}

@@ -1,12 +1,12 @@
 -- The instance of a sequent that holds holds.
-use Rattle.std.proofs.Common.{◌≡◌, ℕ, true, List, [], ◌∷◌, ◌++◌, length, map, Option, Some, None, Ok, refl, sym, ap, ap₂, ◌∙◌, subst, arith}
+use Rattle.std.proofs.Common.{◌≡◌, ℕ, true, List, [], ◌∷◌, ◌++◌, length, map, Option, Some, None, refl, sym, ap, ap₂, ◌∙◌, subst, arith}
 use Rattle.lisp_data.specs.Values.{Name, Val}
 use Rattle.terms.specs.Primitives.{Operation, primitive, lookup}
 use Rattle.terms.specs.Terms.{Tm, Var, Quote, Call, Tms, Done, More, count, Over, OverAll}
 use Rattle.terms.specs.Definitions.{find, Interp}
 use Rattle.terms.specs.Evaluation.{below}
 use Rattle.terms.specs.Joins.{without_repeats}
-use Rattle.terms.specs.Worlds.{Functions, World, FitsSequent, Each, arity, arity_by, is_in, Fits, TotalFor, Total, IsTrueAt, Holds}
+use Rattle.terms.specs.Worlds.{Functions, FitsSequent, Each, arity, arity_by, is_in, Fits, TotalFor, Total, IsTrueAt, Holds}
 use Rattle.terms.specs.Formed.{VarsApart}
 use Rattle.terms.specs.declared.definition.Definition.{Definition}
 use Rattle.terms.specs.declared.sequent.Sequent.{Sequent}

@@ -1,5 +1,5 @@
 -- A right record stays right in each later sound world.
-use Rattle.std.proofs.Common.{◌≡◌, ℕ, Bool, true, false, cond, not, ◌||◌, List, [], ◌∷◌, ◌++◌, map, length, is_some, nat_eq, bytes_eq, Option, Some, None, IfSome, Ok, Err, if◌then◌else◌, refl, sym, ap, ◌∙◌, subst, arith}
+use Rattle.std.proofs.Common.{◌≡◌, ℕ, Bool, true, false, cond, not, ◌||◌, List, [], ◌∷◌, ◌++◌, map, is_some, nat_eq, bytes_eq, Option, Some, None, IfSome, Ok, if◌then◌else◌, refl, sym, ap, ◌∙◌, subst, arith}
 use Rattle.std.proofs.lemmas.Bool.Decides.{nat_tests}
 use Rattle.std.specs.List.{list_any}
 use Rattle.lisp_data.specs.Values.{Name}
@@ -9,7 +9,7 @@ use Rattle.terms.specs.Variables.{with_name}
 use Rattle.terms.specs.Definitions.{find}
 use Rattle.terms.specs.Worlds.{Functions, World, Instance, Each, names, arity, arity_by, is_in, IsIn}
 use Rattle.terms.specs.Formed.{VarsApart}
-use Rattle.terms.specs.Later.{IsContinued, IsLater, Stays}
+use Rattle.terms.specs.Later.{IsContinued, Stays}
 use Rattle.terms.specs.Sound.{Sound}
 use Rattle.terms.specs.declared.definition.Definition.{Definition}
 use Rattle.terms.specs.declared.entries.FunPair.{FunPair}
@@ -23,10 +23,10 @@ use Rattle.worlds.proofs.Reserved.{is_in-keys}
 use Rattle.soft_vars.specs.Maps.{NamePairs, renamed}
 use Rattle.soft_vars.specs.Refusals.{Outcome, and_then, map_outcome, unknown_name, wrong_kind, wrong_arity, repeated}
 use Rattle.soft_vars.specs.Pairs.{is_known, same_arity, fitting_pair, with_pair, with_pairs, IsFitting}
-use Rattle.soft_vars.specs.Instances.{with_calls, with_calls_in, called, listed, parts, restricted, own_pairs, with_recorded, by_own_pairs, with_instance, with_instances, map_from, function_instance, IsRecorded}
-use Rattle.soft_vars.proofs.Fitting.{then_ok, ok_inj, pairs_fit}
+use Rattle.soft_vars.specs.Instances.{with_calls, with_calls_in, called, listed, parts, restricted, own_pairs, with_recorded, by_own_pairs, with_instance, with_instances, map_from, function_instance}
+use Rattle.soft_vars.proofs.Fitting.{then_ok, pairs_fit}
 use Rattle.instance_laws.specs.Laws.{RecordsStay}
-use Rattle.instance_laws.proofs.Formed.{in_first, in_second, if_some_map, IsFoundFormed, found_formed, found_name}
+use Rattle.instance_laws.proofs.Formed.{in_first, in_second, if_some_map, found_formed, found_name}
 use Rattle.instance_laws.proofs.Parts.{map_ok}
 
 nat_self : (k : ℕ) → nat_eq k k ≡ true
