@@ -1,15 +1,23 @@
--- The laws of derived rules.
-use Rattle.std.specs.Prelude.{List, [], ◌++◌}
+-- The laws of derived rules, of the congruence of bodies and of induction on calls.
+use Rattle.std.specs.Prelude.{◌≡◌, true, List, [], ◌++◌, Some}
+use Rattle.lisp_data.specs.Values.{Name}
 use Rattle.terms.specs.BuiltIn.{no}
+use Rattle.terms.specs.Definitions.{find}
 use Rattle.terms.specs.Sound.{Sound}
 use Rattle.terms.specs.Terms.{Tm}
 use Rattle.terms.specs.Worlds.{World, Fits, Each}
+use Rattle.terms.specs.declared.definition.Definition.{Definition}
+use Rattle.terms.specs.declared.sequent.Sequent.{Sequent}
+use Rattle.kernel.specs.Concludes.{concludes}
+use Rattle.kernel.specs.Conclusion.{Conclusion}
 use Rattle.kernel.specs.Sequents.{equation, conditional}
 use Rattle.hints.specs.Start.{conjunction}
 use Rattle.reduction_proofs.specs.Derived.{turned, forth, from_nil}
-use Rattle.reduction_proofs.specs.Proving.{Proves}
+use Rattle.reduction_proofs.specs.Proving.{Proves, ProvesCondition}
 use Rattle.reduction_proofs.specs.Trees.{Proof}
 use Rattle.proof_builders.specs.Derived.{chained, both, first_of_both, second_of_both, gathered, scattered}
+use Rattle.proof_builders.specs.Congruence.{Alike, Difference, differences, Finder, IsFound, congruence, proof_among, is_proved_among}
+use Rattle.proof_builders.specs.Schemes.{scheme, induct_on_calls}
 
 -- the sides of an equation are swapped
 abbrev pub SymmetryProves : Type 0
@@ -54,3 +62,27 @@ abbrev pub CutAllProves : Type 0
 CutAllProves =
     (W : World) → Sound W → (us hs ts : List Tm) (P Q : Proof) (g : Tm) →
     Proves W us hs (conjunction ts) P → Proves W us (hs ++ ts) g Q → Proves W us hs g (scattered ts P Q)
+
+-- terms that are alike but for calls of f are equal under hypotheses, where for each difference a proof is found
+abbrev pub BodyCongruenceProves : Type 0
+BodyCongruenceProves =
+    (W : World) → Sound W → (us hs : List Tm) (f : Name) (found : Finder) (t u : Tm) →
+    Fits W.functions t → Fits W.functions u → Alike f t u → Each (IsFound W us hs found) (differences f [] t u) →
+    Proves W us hs (equation t u) (congruence f found [] t u)
+
+-- a difference that one of the proved sequents proves has its proof among them
+abbrev pub AmongProves : Type 0
+AmongProves =
+    (W : World) (us hs : List Tm) (cs : List Conclusion) → Each (λ c. concludes W c.proof ≡ Some c.sequent) cs → (d : Difference) →
+    is_proved_among cs us hs d ≡ true → IsFound W us hs (proof_among cs us hs) d
+
+-- what is proved from the scheme's hypotheses is proved without them, also where the function isn't recursive
+abbrev pub InductOnCallsProves : Type 0
+InductOnCallsProves =
+    (W : World) → Sound W → (us : List Tm) (d : Definition) → find W.functions.defs d.name ≡ Some d → (g : Tm) (B : Proof) →
+    Proves W us (scheme d g) g B → Proves W us [] g (induct_on_calls d B)
+
+-- what proves a condition's goal under its universals and hypotheses proves the condition
+abbrev pub ConditionsProved : Type 0
+ConditionsProved =
+    (W : World) (c : Sequent) (P : Proof) → Proves W c.universals c.hyps c.goal P → ProvesCondition W c P

@@ -1,6 +1,6 @@
-//! Laws of derived rules, each the contract of a function that does nothing.
+//! Laws of derived rules, of the congruence of bodies and of induction on calls, each the contract of a function that does nothing.
 
-ghost use Rattle.proof_builders.specs.Laws.{SymmetryProves, TransitivityProves, EqualOutProves, ExFalsoProves, AndInProves, AndOutProves, AndInAllProves, CutAllProves};
+ghost use Rattle.proof_builders.specs.Laws.{SymmetryProves, TransitivityProves, EqualOutProves, ExFalsoProves, AndInProves, AndOutProves, AndInAllProves, CutAllProves, BodyCongruenceProves, AmongProves, InductOnCallsProves, ConditionsProved};
 
 /// An equation's sides may be swapped.
 pub fn symmetry_proves()
@@ -40,4 +40,24 @@ pub fn and_in_all_proves()
 /// A proof of a conjunction does away with its terms as hypotheses.
 pub fn cut_all_proves()
     ensures { CutAllProves }
+{}
+
+/// Two terms that are the same but for calls of one function are equal where those calls are.
+pub fn body_congruence_proves()
+    ensures { BodyCongruenceProves }
+{}
+
+/// Proved sequents that prove the differences have a proof of each.
+pub fn among_proves()
+    ensures { AmongProves }
+{}
+
+/// What follows from the hypotheses of a function's own scheme is proved without them.
+pub fn induct_on_calls_proves()
+    ensures { InductOnCallsProves }
+{}
+
+/// What proves a condition's goal under its universals and hypotheses proves the condition.
+pub fn conditions_proved()
+    ensures { ConditionsProved }
 {}
