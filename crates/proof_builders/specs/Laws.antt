@@ -1,5 +1,5 @@
 -- The laws of derived rules, of the congruence of bodies and of induction on calls.
-use Rattle.std.specs.Prelude.{◌≡◌, true, List, [], ◌++◌, Some}
+use Rattle.std.specs.Prelude.{◌≡◌, ◌↔◌, true, List, [], ◌++◌, Some}
 use Rattle.lisp_data.specs.Values.{Name}
 use Rattle.terms.specs.BuiltIn.{no}
 use Rattle.terms.specs.Definitions.{find}
@@ -82,7 +82,7 @@ InductOnCallsProves =
     (W : World) → Sound W → (us : List Tm) (d : Definition) → find W.functions.defs d.name ≡ Some d → (g : Tm) (B : Proof) →
     Proves W us (scheme d g) g B → Proves W us [] g (induct_on_calls d B)
 
--- what proves a condition's goal under its universals and hypotheses proves the condition
+-- a proof proves a condition where it proves its goal, under its universals and hypotheses, and only there
 abbrev pub ConditionsProved : Type 0
 ConditionsProved =
-    (W : World) (c : Sequent) (P : Proof) → Proves W c.universals c.hyps c.goal P → ProvesCondition W c P
+    (W : World) (c : Sequent) (P : Proof) → Proves W c.universals c.hyps c.goal P ↔ ProvesCondition W c P

@@ -57,7 +57,7 @@ pub fn induct_on_calls_proves()
     ensures { InductOnCallsProves }
 {}
 
-/// What proves a condition's goal under its universals and hypotheses proves the condition.
+/// A proof proves a condition where it proves its goal, under its universals and hypotheses, and only there.
 pub fn conditions_proved()
     ensures { ConditionsProved }
 {}

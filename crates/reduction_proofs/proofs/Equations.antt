@@ -42,12 +42,12 @@ unfolding snoc
 snoc-count Done b = refl
 snoc-count (More t ts) b = ap suc (snoc-count ts b)
 
-pub at_done : (ts us : Tms) (t : Tm) → argument (suc (count ts)) (append ts (More t us)) ≡ Some t
+at_done : (ts us : Tms) (t : Tm) → argument (suc (count ts)) (append ts (More t us)) ≡ Some t
 unfolding append
 at_done Done us t = refl
 at_done (More d ds) us t = at_done ds us t
 
-pub put_done : (b : Tm) (ts us : Tms) (t : Tm) → with_arg (suc (count ts)) b (append ts (More t us)) ≡ append ts (More b us)
+put_done : (b : Tm) (ts us : Tms) (t : Tm) → with_arg (suc (count ts)) b (append ts (More t us)) ≡ append ts (More b us)
 unfolding append
 put_done b Done us t = refl
 put_done b (More d ds) us t = ap (More d) (put_done b ds us t)

@@ -1,5 +1,5 @@
-use Rattle.reduction_proofs.proofs.Deduction.{condition_proved}
+use Rattle.proof_builders.proofs.Among.{conditions_proved}
 use Rattle.proof_builders.proofs.laws.conditions_proved.Goals as goal
 
 pub returns : goal.returns
-returns c = condition_proved
+returns c = conditions_proved
