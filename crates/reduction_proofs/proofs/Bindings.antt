@@ -53,7 +53,7 @@ bind_gives s (x ∷ xs) (t ∷ ts) y = by_first (lookup s x) refl (λ z. bind_gi
 pub bind_is : (xs : List Name) (ts : List Tm) (y : Name) → by_pairs (bind [] xs ts) y ≡ by_args xs (tms ts) y
 bind_is xs ts y = bind_gives [] xs ts y
 
-tms_list : (ts : Tms) → tms (tm_list ts) ≡ ts
+pub tms_list : (ts : Tms) → tms (tm_list ts) ≡ ts
 tms_list Done = refl
 tms_list (More t ts) = ap (More t) (tms_list ts)
 

@@ -1,28 +1,32 @@
 -- The rules, as they serve under hypotheses.
-use Rattle.std.proofs.Common.{◌≡◌, ℕ, true, List, [], ◌∷◌, map, Some, None, if◌then◌else◌, refl, ap, ◌∙◌}
+use Rattle.std.proofs.Common.{◌≡◌, ◌&&◌, ℕ, true, List, [], ◌∷◌, map, Some, None, if◌then◌else◌, refl, ap, ◌∙◌, subst}
 use Rattle.std.specs.Option.{option_map}
+use Rattle.std.proofs.lemmas.Bool.{and_parts}
 use Rattle.lisp_data.specs.Values.{Name, Val}
-use Rattle.terms.specs.Terms.{Tm, Quote, Call, Tms, substitute, by_args}
+use Rattle.terms.specs.Terms.{Tm, Quote, Call, Tms, same_tm, substitute, by_args}
 use Rattle.terms.specs.Definitions.{find}
 use Rattle.terms.specs.Joins.{join}
 use Rattle.terms.specs.Paths.{part_at, put_part}
 use Rattle.terms.specs.Substitution.{Pairs, by_pairs}
 use Rattle.terms.specs.Worlds.{World, Each}
 use Rattle.terms.specs.declared.definition.Definition.{Definition}
+use Rattle.terms.specs.declared.sequent.Sequent.{Sequent}
 use Rattle.terms.proofs.Lists.{join_to}
-use Rattle.terms.proofs.Same.{term_self}
+use Rattle.terms.proofs.Same.{same_term, term_self}
 use Rattle.evaluator.specs.Counted.{evaluated}
 use Rattle.kernel.specs.Axioms.{axiom_at}
+use Rattle.kernel.specs.Concludes.{concludes}
 use Rattle.kernel.specs.Equations.{body_at, called}
 use Rattle.kernel.specs.Evaluating.{is_ground, value_of}
 use Rattle.kernel.specs.Fitting.{fits, pairs_fit}
 use Rattle.kernel.specs.Ring.{are_same}
 use Rattle.kernel.specs.Sequents.{equation, negation, implication, conditional, of_goal}
 use Rattle.kernel.proofs.Joins.{map_to}
+use Rattle.plans.specs.Proving.{are_among, proves}
 use Rattle.reduction.specs.Hyps.{without}
-use Rattle.reduction_proofs.specs.Proving.{Within, Proves}
+use Rattle.reduction_proofs.specs.Proving.{Within, Proves, ProvesCondition}
 use Rattle.reduction_proofs.specs.Trees.{Proof, Hyp, Refl, Replace, Unfold, Eval, Substitute, IfTrue, IfFalse, Cases, Cut, Contradict, Axiom, Ring, ImpliesIn, ImpliesOut}
-use Rattle.reduction_proofs.proofs.Members.{each_within, without_within}
+use Rattle.reduction_proofs.proofs.Members.{each_within, without_within, are_among_within, within_among}
 
 nothing_within : (hs : List Tm) (P : Tm → Type 0) → Each (Within []) hs → Each P hs
 nothing_within [] P e = tt
@@ -144,3 +148,25 @@ module _ (W : World) (us : List Tm) where
     universals_in = p.universals_in;
     hyps_in = join_to (Within hs) [] (map (substitute (by_pairs s)) p.hyps) tt (map_to (Within hs) (substitute (by_pairs s)) p.hyps (nothing_within p.hyps (λ h. Within hs (substitute (by_pairs s) h)) p.hyps_in));
   }
+
+-- what is proved of a condition's goal, under its universals and hypotheses, proves the condition
+pub condition_proved : (W : World) (c : Sequent) (P : Proof) → Proves W c.universals c.hyps c.goal P → ProvesCondition W c P
+condition_proved W c P p = record {
+  sequent = record { universals = p.universals; hyps = p.hyps; goal = c.goal };
+  concluded = p.concluded;
+  proved = rw (are_among_within c.universals p.universals p.universals_in) (rw (are_among_within c.hyps p.hyps p.hyps_in) (rw (term_self c.goal) refl));
+}
+
+-- and the other way round
+pub proved_condition : (W : World) (s c : Sequent) (P : Proof) → concludes W P ≡ Some s → proves s c ≡ true → Proves W c.universals c.hyps c.goal P
+proved_condition W s c P e p =
+    let h = and_parts (are_among s.universals c.universals && are_among s.hyps c.hyps) (same_tm s.goal c.goal) p in
+    let q = and_parts (are_among s.universals c.universals) (are_among s.hyps c.hyps) h.0 in
+    subst (λ g. Proves W c.universals c.hyps g P) (same_term s.goal c.goal h.1)
+    (record {
+      universals = s.universals;
+      hyps = s.hyps;
+      concluded = e;
+      universals_in = within_among c.universals s.universals q.0;
+      hyps_in = within_among c.hyps s.hyps q.1;
+    })

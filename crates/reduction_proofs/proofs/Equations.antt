@@ -20,20 +20,24 @@ use Rattle.reduction_proofs.proofs.Members.{Fit, has_in, each_self, each_right}
 use Rattle.reduction_proofs.proofs.Deduction.{wider, by_hyp, by_refl, by_replace, by_cut}
 use Rattle.reduction_proofs.proofs.Shortcuts.{by_forth}
 
-append : Tms → Tms → Tms
+pub append : Tms → Tms → Tms
 append Done us = us
 append (More t ts) us = More t (append ts us)
 
-snoc : Tms → Tm → Tms
+pub append_first : (ts : Tms) → append Done ts ≡ ts
+unfolding append
+append_first ts = refl
+
+pub snoc : Tms → Tm → Tms
 snoc Done b = More b Done
 snoc (More t ts) b = More t (snoc ts b)
 
-snoc-append : (ts us : Tms) (b : Tm) → append (snoc ts b) us ≡ append ts (More b us)
+pub snoc-append : (ts us : Tms) (b : Tm) → append (snoc ts b) us ≡ append ts (More b us)
 unfolding append snoc
 snoc-append Done us b = refl
 snoc-append (More t ts) us b = ap (More t) (snoc-append ts us b)
 
-snoc-count : (ts : Tms) (b : Tm) → count (snoc ts b) ≡ suc (count ts)
+pub snoc-count : (ts : Tms) (b : Tm) → count (snoc ts b) ≡ suc (count ts)
 unfolding snoc
 snoc-count Done b = refl
 snoc-count (More t ts) b = ap suc (snoc-count ts b)
@@ -62,27 +66,29 @@ module _ (x : Name) (a : Tm) where
         let h = or_parts (occurs x t) (occurs_in x ts) e in
         let p = put_same t h.0 in let q = put_all_same ts h.1 in cc
 
+-- an argument of the right side gives way to what it equals
+module _ (W : World) (us : List Tm) (hs : List Tm) where
+  pub by_argument : (g : Name) (first ready ts : Tms) (t u : Tm) (n : ℕ) (P Q : Proof) → n ≡ suc (count ready) → Proves W us hs (equation t u) P →
+      Proves W us hs (equation (Call g first) (Call g (append ready (More t ts)))) Q →
+      Proves W us hs (equation (Call g first) (Call g (append (snoc ready u) ts))) (Replace P Q (2 ∷ n ∷ []))
+  by_argument g first ready ts t u n P Q e p q =
+      let args : Tms = append ready (More t ts) in
+      let found : argument n args ≡ Some t = ap (λ m. argument m args) e ∙ at_done ready ts t in
+      by_replace W us hs t u (equation (Call g first) (Call g args)) (equation (Call g first) (Call g (append (snoc ready u) ts))) P Q (2 ∷ n ∷ []) (ap (then_at (part_at [])) found)
+      (ap (λ o. option_map (λ new. equation (Call g first) new) (then_at (λ b. option_map (λ new. with_argument n new (Call g args)) (put_part [] u b)) o)) found
+      ∙ ap (λ m. Some (equation (Call g first) (Call g (with_arg m u args)))) e
+      ∙ ap (λ vs. Some (equation (Call g first) (Call g vs))) (put_done u ready ts t ∙ sym (snoc-append ready ts u)))
+      p q
+
 module _ (W : World) (us : List Tm) (hs : List Tm) (x : Name) (a : Tm) (E : Proof) (by_e : Proves W us hs (equation (Var x) a) E) where
   -- one argument after those that are ready
   one_more : (g : Name) (first ready ts : Tms) (t : Tm) (n : ℕ) (Q : Proof) → n ≡ suc (count ready) → Proves W us hs (equation t (put x a t)) (equate x E t) →
       Proves W us hs (equation (Call g first) (Call g (append ready (More t ts)))) Q →
       Proves W us hs (equation (Call g first) (Call g (append (snoc ready (put x a t)) ts))) (cond (occurs x t) (Replace (equate x E t) Q (2 ∷ n ∷ [])) Q)
-  unfolding append
   one_more g first ready ts t n Q e p q = by_test (occurs x t) refl
     where
-      args : Tms
-      args = append ready (More t ts)
-
-      found : argument n args ≡ Some t
-      found = ap (λ m. argument m args) e ∙ at_done ready ts t
-
       by_test : (b : Bool) → occurs x t ≡ b → Proves W us hs (equation (Call g first) (Call g (append (snoc ready (put x a t)) ts))) (cond b (Replace (equate x E t) Q (2 ∷ n ∷ [])) Q)
-      by_test true o =
-          by_replace W us hs t (put x a t) (equation (Call g first) (Call g args)) (equation (Call g first) (Call g (append (snoc ready (put x a t)) ts))) (equate x E t) Q (2 ∷ n ∷ []) (ap (then_at (part_at [])) found)
-          (ap (λ o. option_map (λ new. equation (Call g first) new) (then_at (λ b. option_map (λ new. with_argument n new (Call g args)) (put_part [] (put x a t) b)) o)) found
-          ∙ ap (λ m. Some (equation (Call g first) (Call g (with_arg m (put x a t) args)))) e
-          ∙ ap (λ vs. Some (equation (Call g first) (Call g vs))) (put_done (put x a t) ready ts t ∙ sym (snoc-append ready ts (put x a t))))
-          p q
+      by_test true o = by_argument W us hs g first ready ts t (put x a t) n (equate x E t) Q e p q
       by_test false o =
           subst (λ vs. Proves W us hs (equation (Call g first) (Call g vs)) Q) (sym (snoc-append ready ts (put x a t) ∙ ap (λ u. append ready (More u ts)) (put_same x a t o))) q
 

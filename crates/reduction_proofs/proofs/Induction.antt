@@ -69,7 +69,7 @@ assumed_all g cs [] h = refl
 assumed_all g cs (k ∷ hs) h = and_from (list_any (λ c. same_tm (assumption g c) k) cs) (all_assumed g cs hs) (assumed_one g cs k h.0) (assumed_all g cs hs h.1)
 
 module _ (W : World) (us : List Tm) (basics : HasBasics W.functions) where
-  fits_both : (p q : Tm) → Fit W p → Fit W q → Fit W (conditional p q no)
+  pub fits_both : (p q : Tm) → Fit W p → Fit W q → Fit W (conditional p q no)
   fits_both p q f g = rw is_if (rw f (rw g refl))
 
   fits_implies : (a b : Tm) → Fit W a → Fit W b → Fit W (implication a b)
@@ -92,7 +92,7 @@ module _ (W : World) (us : List Tm) (basics : HasBasics W.functions) where
     both_holds : (ks : List Tm) → Within ks (conditional a b no) → Proves W us ks (conditional a b no) (Hyp (conditional a b no))
     both_holds ks v = by_hyp W us ks (conditional a b no) (fits_both a b fa fb) v
 
-    by_first : Proves W us hs a (first_part a b)
+    pub by_first : Proves W us hs a (first_part a b)
     by_first =
         let n : Tm = negation a in
         by_case W us hs a a (Hyp a) _ fa (by_hyp W us (a ∷ hs) a fa (within_first a hs))
@@ -101,7 +101,7 @@ module _ (W : World) (us : List Tm) (basics : HasBasics W.functions) where
         (by_if_false W us (n ∷ hs) a b no (Hyp n) fb refl (by_hyp W us (n ∷ hs) n (fits_not W us basics a fa) (within_first n hs)))
         (both_holds (n ∷ hs) (within_more n hs (conditional a b no) w))))
 
-    by_second : Proves W us (a ∷ hs) b (second_part a b)
+    pub by_second : Proves W us (a ∷ hs) b (second_part a b)
     by_second = by_forth W us basics (a ∷ hs) (conditional a b no) b (IfTrue (Hyp a) b no) (Hyp (conditional a b no))
         (by_if_true W us (a ∷ hs) a b no (Hyp a) fb refl (by_hyp W us (a ∷ hs) a fa (within_first a hs)))
         (both_holds (a ∷ hs) (within_more a hs (conditional a b no) w))
@@ -112,7 +112,7 @@ module _ (W : World) (us : List Tm) (basics : HasBasics W.functions) where
       let q = each_right bs (r ∷ a ∷ hs) in
       (q.1.0, each_join (Within (bs ++ (r ∷ a ∷ hs))) bs hs (each_left bs (r ∷ a ∷ hs)) q.1.1)
 
-  by_cut_parts : (hs : List Tm) (a : Tm) (bs : List Tm) (g : Tm) (P : Proof) → Fit W a → Each (Fit W) bs → Within hs (conjunction_from a bs) → Proves W us (a ∷ (bs ++ hs)) g P → Proves W us hs g (cut_parts a bs P)
+  pub by_cut_parts : (hs : List Tm) (a : Tm) (bs : List Tm) (g : Tm) (P : Proof) → Fit W a → Each (Fit W) bs → Within hs (conjunction_from a bs) → Proves W us (a ∷ (bs ++ hs)) g P → Proves W us hs g (cut_parts a bs P)
   by_cut_parts hs a [] g P fa fbs w p = wider W us (a ∷ hs) hs g P (w, each_self hs) p
   by_cut_parts hs a (b ∷ bs) g P fa fbs w p =
       let rest : Tm = conjunction_from b bs in

@@ -1,7 +1,7 @@
 -- Lists of terms as sets.
-use Rattle.std.proofs.Common.{◌≡◌, Bool, true, false, cond, not, ◌||◌, List, [], ◌∷◌, ◌++◌, if◌then◌else◌, refl, sym, subst}
+use Rattle.std.proofs.Common.{◌≡◌, Bool, true, false, cond, not, ◌||◌, List, [], ◌∷◌, ◌++◌, if◌then◌else◌, refl, sym, ap, ◌∙◌, subst}
 use Rattle.std.specs.List.{list_any}
-use Rattle.std.proofs.lemmas.Bool.{or_left, or_right}
+use Rattle.std.proofs.lemmas.Bool.{and_parts, and_from, or_left, or_right}
 use Rattle.terms.specs.Terms.{Tm, same_tm}
 use Rattle.terms.specs.Joins.{with_term}
 use Rattle.terms.specs.Worlds.{World, Fits, Each}
@@ -9,6 +9,7 @@ use Rattle.terms.proofs.Lists.{each_to, each_join}
 use Rattle.terms.proofs.Same.{same_term, term_self}
 use Rattle.kernel.specs.Fitting.{fits}
 use Rattle.kernel.proofs.Inversions.{fits_decides}
+use Rattle.plans.specs.Proving.{is_among, are_among}
 use Rattle.reduction.specs.Hyps.{has, without}
 use Rattle.reduction_proofs.specs.Proving.{Within}
 
@@ -39,6 +40,19 @@ has_in P (u ∷ us) t e h = by_test (same_tm t u) refl e (λ f. has_in P us t f 
     by_test : (b : Bool) → same_tm t u ≡ b → (b || has us t) ≡ true → (has us t ≡ true → P t) → P t
     by_test true s e' ih = subst P (sym (same_term t u s)) h.0
     by_test false s e' ih = ih e'
+
+-- the same, in the words of conditions
+among_is_has : (t : Tm) (us : List Tm) → is_among t us ≡ has us t
+among_is_has t [] = refl
+among_is_has t (u ∷ us) = ap (λ b. same_tm t u || b) (among_is_has t us)
+
+pub are_among_within : (us ts : List Tm) → Each (Within us) ts → are_among ts us ≡ true
+are_among_within us [] h = refl
+are_among_within us (t ∷ ts) h = and_from (is_among t us) (are_among ts us) (among_is_has t us ∙ h.0) (are_among_within us ts h.1)
+
+pub within_among : (us ts : List Tm) → are_among ts us ≡ true → Each (Within us) ts
+within_among us [] e = tt
+within_among us (t ∷ ts) e = let h = and_parts (is_among t us) (are_among ts us) e in (sym (among_is_has t us) ∙ h.0, within_among us ts h.1)
 
 -- what lies within a list that lies within another
 pub each_within : (hs big ts : List Tm) → Each (Within big) hs → Each (Within hs) ts → Each (Within big) ts

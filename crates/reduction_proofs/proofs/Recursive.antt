@@ -7,7 +7,7 @@ use Rattle.terms.specs.Formed.{HasBasics, FitsOver, IsFormed, functions, AllForm
 use Rattle.terms.specs.Measures.{mentions, RecursiveCall, Place, Plain, Test, Then, Else, tests_at, next, first_place, recursive_calls, recursive_calls_in, owed_by, obligations, is_natural, falls, call1}
 use Rattle.terms.specs.Sound.{Sound}
 use Rattle.terms.specs.Terms.{Tm, Var, Quote, Call, Tms, Done, More, count, Over}
-use Rattle.terms.specs.Worlds.{World, arity, IsIn, Each}
+use Rattle.terms.specs.Worlds.{World, arity, IsIn, Distinct, Each}
 use Rattle.terms.specs.declared.definition.Definition.{Definition}
 use Rattle.terms.proofs.Below.{Any}
 use Rattle.terms.proofs.Extend.{over_map, body_fits}
@@ -101,6 +101,9 @@ measure_over W formals F (Some n) m i e =
 module _ (W : World) (sound : Sound W) (f : Name) (d : Definition) (found : find W.functions.defs f ≡ Some d) (recursive : mentions d.name d.body ≡ true) where
   is_found : IsFound W.functions.vars f d
   is_found = found_formed W.functions.vars W.functions.defs sound.formed f d found
+
+  pub has_distinct_formals : Distinct d.formals
+  has_distinct_formals = is_found.formed.formals
 
   -- a recursive definition has a measure
   pub has_measure : is_some d.measure ≡ true

@@ -1,28 +1,24 @@
 -- The start of a reduction, with the steps after it.
-use Rattle.std.proofs.Common.{◌≡◌, ℕ, true, ◌||◌, is_some, List, [], ◌∷◌, ◌++◌, map, Option, Some, None, refl, sym, ap, ◌∙◌, subst}
-use Rattle.std.proofs.lemmas.Bool.{and_from}
+use Rattle.std.proofs.Common.{◌≡◌, ℕ, true, is_some, List, [], ◌∷◌, ◌++◌, map, Option, Some, None, refl, sym, ap, ◌∙◌, subst}
 use Rattle.lisp_data.specs.Values.{Name}
 use Rattle.terms.specs.Definitions.{find}
 use Rattle.terms.specs.Joins.{join}
 use Rattle.terms.specs.Measures.{RecursiveCall, recursive_calls}
 use Rattle.terms.specs.Sound.{Sound}
 use Rattle.terms.specs.Substitution.{by_pairs}
-use Rattle.terms.specs.Terms.{Tm, same_tm, substitute}
+use Rattle.terms.specs.Terms.{Tm, substitute}
 use Rattle.terms.specs.Worlds.{World, Distinct, Each}
 use Rattle.terms.specs.declared.definition.Definition.{Definition}
 use Rattle.terms.proofs.Later.{has_basics}
 use Rattle.terms.proofs.Lists.{join_to}
-use Rattle.terms.proofs.Same.{term_self}
 use Rattle.kernel.specs.Conclusion.{alone}
 use Rattle.kernel.specs.Fitting.{pairs_fit}
 use Rattle.kernel.proofs.Inversions.{fits_decides, pairs_fit_each}
-use Rattle.plans.specs.Proving.{is_among, are_among}
 use Rattle.reduction.specs.declared.found.Source.{Source}
 use Rattle.reduction.specs.declared.found.Source.TheVariants as source
 use Rattle.reduction.specs.declared.moves.Subgoal.{Subgoal}
 use Rattle.reduction.specs.declared.run.Made.{Made}
 use Rattle.reduction.specs.declared.run.Outcome.TheVariants.{Closed}
-use Rattle.reduction.specs.Hyps.{has}
 use Rattle.reduction.specs.Moves.{subgoal}
 use Rattle.hints.specs.declared.hint.Fact.{Fact}
 use Rattle.hints.specs.declared.hint.Fact.TheVariants.{Axiom, Theorem, Assumed}
@@ -37,7 +33,7 @@ use Rattle.reduction_proofs.specs.Start.{fact_under, without_uses, by_measure, b
 use Rattle.reduction_proofs.specs.Trees.{Proof, Hyp, Substitute, Cut}
 use Rattle.reduction_proofs.specs.WayBack.{proofs}
 use Rattle.reduction_proofs.proofs.Members.{Fit, each_fit, each_left, each_right}
-use Rattle.reduction_proofs.proofs.Deduction.{wider, by_cut, by_instance}
+use Rattle.reduction_proofs.proofs.Deduction.{wider, by_cut, by_instance, condition_proved}
 use Rattle.reduction_proofs.proofs.Induction.{folded_fits, hypotheses_fit, induction_proves}
 use Rattle.reduction_proofs.proofs.Moves.{Ok}
 use Rattle.reduction_proofs.proofs.Recursive.{has_measure, is_recursive}
@@ -138,23 +134,7 @@ module _ (W : World) (sound : Sound W) (us : List Tm) where
       (record { cases = 0; subgoal = start W h s } ∷ []) (with_uses_ok h.uses t fit.uses okt, tt) ms e in
       led.proves ok (without_uses h.uses (first_or (Hyp s.goal) ps)) (with_uses_proves h.uses t (first_or (Hyp s.goal) ps) fit.uses (first_proves (start W h s) (Hyp s.goal) ps all))
 
-among : (us : List Tm) (t : Tm) → Within us t → is_among t us ≡ true
-among us t w = same us ∙ w
-  where
-    same : (vs : List Tm) → is_among t vs ≡ has vs t
-    same [] = refl
-    same (v ∷ vs) = ap (λ b. same_tm t v || b) (same vs)
-
-all_among : (us ts : List Tm) → Each (Within us) ts → are_among ts us ≡ true
-all_among us [] h = refl
-all_among us (t ∷ ts) h = and_from (is_among t us) (are_among ts us) (among us t h.0) (all_among us ts h.1)
-
 pub reductions_prove : ReductionsProve
 reductions_prove W sound c f h fit n ms e =
     let ok : Ok W (subgoal c.hyps c.goal) = record { hyps = each_fit W c.hyps f.hyps; goal = (fits_decides W.functions c.goal).1 f.goal } in
-    let p = whole_proves W sound c.universals h fit n (subgoal c.hyps c.goal) ok ms e in
-    record {
-      sequent = record { universals = p.universals; hyps = p.hyps; goal = c.goal };
-      concluded = p.concluded;
-      proved = rw (all_among c.universals p.universals p.universals_in) (rw (all_among c.hyps p.hyps p.hyps_in) (rw (term_self c.goal) refl));
-    }
+    condition_proved W c (proof_of W h (subgoal c.hyps c.goal) ms) (whole_proves W sound c.universals h fit n (subgoal c.hyps c.goal) ok ms e)

@@ -1,0 +1,5 @@
+use Rattle.proof_builders.proofs.Derived.{and_in_proves}
+use Rattle.proof_builders.proofs.laws.and_in_proves.Goals as goal
+
+pub returns : goal.returns
+returns c = and_in_proves

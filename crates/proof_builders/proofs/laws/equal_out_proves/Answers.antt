@@ -1,0 +1,5 @@
+use Rattle.proof_builders.proofs.Derived.{equal_out_proves}
+use Rattle.proof_builders.proofs.laws.equal_out_proves.Goals as goal
+
+pub returns : goal.returns
+returns c = equal_out_proves

@@ -1,0 +1,5 @@
+use Rattle.proof_builders.proofs.Derived.{ex_falso_proves}
+use Rattle.proof_builders.proofs.laws.ex_falso_proves.Goals as goal
+
+pub returns : goal.returns
+returns c = ex_falso_proves

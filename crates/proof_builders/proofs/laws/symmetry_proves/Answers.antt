@@ -1,0 +1,5 @@
+use Rattle.proof_builders.proofs.Derived.{symmetry_proves}
+use Rattle.proof_builders.proofs.laws.symmetry_proves.Goals as goal
+
+pub returns : goal.returns
+returns c = symmetry_proves

@@ -1,0 +1,5 @@
+use Rattle.proof_builders.proofs.Derived.{transitivity_proves}
+use Rattle.proof_builders.proofs.laws.transitivity_proves.Goals as goal
+
+pub returns : goal.returns
+returns c = transitivity_proves

@@ -1,0 +1,4 @@
+pub mod Derived
+pub mod Congruence
+pub mod Schemes
+pub mod Laws
