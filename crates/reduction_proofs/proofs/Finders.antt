@@ -269,16 +269,16 @@ module _ (W : World) (us : List Tm) (basics : HasBasics W.functions) where
         let d = and_parts (is_side hs e.0) (is_side hs e.1) c.0 in
         let sa = side_is e.0 f.0 d.0 in
         let sb = side_is e.1 f.1 d.1 in
-        let R0 : Proof = Ring (side e.0) (side e.1) in
-        let R1 : Proof = Replace (sided e.0) R0 (1 ∷ []) in
-        let R2 : Proof = Replace (sided e.1) R1 (2 ∷ []) in
+        let Sides : Proof = Ring (side e.0) (side e.1) in
+        let LeftDone : Proof = Replace (sided e.0) Sides (1 ∷ []) in
+        let BothDone : Proof = Replace (sided e.1) LeftDone (2 ∷ []) in
         let r0 = by_ring W us hs (side e.0) (side e.1) sa.fitted sb.fitted (ring_is (side e.0) (side e.1) sa.counts sb.counts c.1) in
-        let r1 = by_replace W us hs (side e.0) e.0 (equation (side e.0) (side e.1)) (equation e.0 (side e.1)) (sided e.0) R0 (1 ∷ []) refl refl sa.equals r0 in
-        let r2 = by_replace W us hs (side e.1) e.1 (equation e.0 (side e.1)) (equation e.0 e.1) (sided e.1) R1 (2 ∷ []) refl refl sb.equals r1 in
-        let P : Proof = is_t_by_both 3 e.0 e.1 R2 in
+        let r1 = by_replace W us hs (side e.0) e.0 (equation (side e.0) (side e.1)) (equation e.0 (side e.1)) (sided e.0) Sides (1 ∷ []) refl refl sa.equals r0 in
+        let r2 = by_replace W us hs (side e.1) e.1 (equation e.0 (side e.1)) (equation e.0 e.1) (sided e.1) LeftDone (2 ∷ []) refl refl sb.equals r1 in
+        let P : Proof = is_t_by_both 3 e.0 e.1 BothDone in
         subst (λ o. Proves W us hs (equation u yes) (same_polynomial_by u o)) (sym is)
         (subst (λ g. Proves W us hs (equation g yes) P) (sym same)
-        (by_implies_out W us hs (equation e.0 e.1) (equation (equation e.0 e.1) yes) (Axiom 3 ((codes "X", e.0) ∷ (codes "Y", e.1) ∷ [])) R2
+        (by_implies_out W us hs (equation e.0 e.1) (equation (equation e.0 e.1) yes) (Axiom 3 ((codes "X", e.0) ∷ (codes "Y", e.1) ∷ [])) BothDone
         (by_an_axiom W us hs 3 ((codes "X", e.0) ∷ (codes "Y", e.1) ∷ []) (implication (equation x y) (equation (equation x y) yes)) equal_is_t (rw f.0 (rw f.1 refl))) r2))))
 
   -- the last kind only finds a term that fits
