@@ -9,7 +9,9 @@ use Rattle.ports.proofs.Streams.{Grows-trans}
 use Rattle.book_cli.specs.declared.progress.Progress.{Progress}
 use Rattle.book_cli.specs.view.Begun.{IsBegun}
 use Rattle.events.specs.Verdicts.{Verdict, Accepted, Redundant, Printed, Refused, verdict}
-use Rattle.book_cli.specs.Report.{Read, IsNext, all_lines, after, is_refusal, goes_on, event_line, turn_lines, end_lines, report_from, world_from, accepts, last_line}
+use Rattle.terms.specs.Worlds.{World}
+use Rattle.terms.specs.Sound.{initial_world}
+use Rattle.book_cli.specs.Report.{Read, IsNext, all_lines, begin, after, is_refusal, goes_on, event_line, turn_lines, end_lines, report_from, world_from, accepts, last_line}
 
 module _ (a b c : Option (List ℕ)) where
   -- a piece more
@@ -206,3 +208,10 @@ lines_split [] d h = absurd (omega arith)
 lines_split (line ∷ lines) d h =
     let k : length (line ∷ lines) - 1 ≡ length lines = omega arith in
     ap (λ x. line ++ x) (ap all_lines (sym (ap (λ n. take n lines) k ∙ take-length lines)))
+
+-- where a run stands in a world, before its first event
+abbrev started : World → Progress
+started W = record { world = W; handled = 0; counted = 0 }
+
+pub begins : (W : World) → W ≡ initial_world → started W ≡ begin
+begins W e = ap started e

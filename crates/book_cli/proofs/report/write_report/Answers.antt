@@ -5,9 +5,25 @@ use Rattle.lisp_data.specs.FormView.{form_of}
 use Rattle.ports.proofs.Streams.{Grows-nil}
 use Rattle.terms.specs.Worlds.{World}
 use Rattle.terms.specs.Sound.{Sound}
-use Rattle.book_cli.specs.Report.{turn_lines, last_line, end_lines, report_from, report_of, accepts}
-use Rattle.book_cli.proofs.ReportLemmas.{begun_more, begun_end, begun_cut, begun_last_cut, begun_stays, after_turn, report_split, report_goes, report_stops, report_ends, accepts_goes, accepts_not, both_go, world_goes, world_stops, fewer, handled_more, counted_within, on_err}
+use Rattle.book_cli.specs.Report.{begin, turn_lines, last_line, end_lines, report_from, report_of, world_from, accepts}
+use Rattle.book_cli.proofs.ReportLemmas.{begins, begun_more, begun_end, begun_cut, begun_last_cut, begun_stays, after_turn, report_split, report_goes, report_stops, report_ends, accepts_goes, accepts_not, both_go, world_goes, world_stops, fewer, handled_more, counted_within, on_err}
 use Rattle.book_cli.proofs.report.write_report.Goals as goal
+
+pub events-init : goal.events-init
+events-init g c =
+    let start = begins c.in_ok-initial.field-0 c.in_ok-initial.ensures in
+    record {
+      begun = record {
+        written = [];
+        grown = Grows-nil (g.K.Sink.held c.args.out.now);
+        split = ap (λ p. report_from c.args.continues p c.args.reader.now.0 c.args.reader.now.1) start;
+      };
+      accepted = ap (λ p. accepts p c.args.reader.now.0 c.args.reader.now.1) start;
+      final = ap (λ p. world_from c.args.continues p c.args.reader.now.0) start;
+      later = omega (arith);
+      few = omega (arith, c.requires);
+      counted = omega (arith);
+    }
 
 pub returns-in_err-accepted-in-Ok-Some-clause-cut : goal.returns-in_err-accepted-in-Ok-Some-clause-cut
 returns-in_err-accepted-in-Ok-Some-clause-cut g c =
