@@ -11,7 +11,7 @@ use Rattle.book_cli.specs.view.Begun.{IsBegun}
 use Rattle.events.specs.Verdicts.{Verdict, Accepted, Redundant, Printed, Refused, verdict}
 use Rattle.terms.specs.Worlds.{World}
 use Rattle.terms.specs.Sound.{initial_world}
-use Rattle.book_cli.specs.Report.{Read, IsNext, all_lines, begin, after, is_refusal, goes_on, event_line, turn_lines, end_lines, report_from, world_from, accepts, last_line}
+use Rattle.book_cli.specs.Report.{Read, IsNext, all_lines, begin, after, is_refusal, goes_on, event_lines, turn_lines, end_lines, report_from, world_from, accepts, last_line}
 
 module _ (a b c : Option (List ℕ)) where
   -- a piece more
@@ -73,7 +73,7 @@ module _ (continues : Bool) (p : Progress) (e : Datum × ℕ) (read rest : Read)
   pub report_split : report_from continues p read.0 read.1 ≡ turn_lines continues p e ++ after_turn continues p e rest
   report_split =
       ap (λ (r : Read). report_from continues p r.0 r.1) first
-      ∙ by_test (event_line p e) (last_line (after p (verdict p.world e.0))) (report_from continues (after p (verdict p.world e.0)) rest.0 rest.1) (goes_on continues (verdict p.world e.0))
+      ∙ by_test (all_lines (event_lines p e)) (last_line (after p (verdict p.world e.0))) (report_from continues (after p (verdict p.world e.0)) rest.0 rest.1) (goes_on continues (verdict p.world e.0))
     where
       by_test : (line last more : List ℕ) (b : Bool) → line ++ (if b then more else last) ≡ (line ++ (if b then [] else last)) ++ (if b then more else [])
       by_test line last more true = ap (λ x. x ++ more) (sym (append-nil line))
@@ -86,14 +86,14 @@ module _ (continues : Bool) (p q : Progress) (e : Datum × ℕ) (accepted : Bool
   pub stops_with : (accepted || continues) ≡ false → goes_on continues (verdict p.world e.0) ≡ false
   stops_with = stops continues (verdict p.world e.0) accepted next.accepts
 
-  pub turn_goes : (accepted || continues) ≡ true → turn_lines continues p e ≡ event_line p e
+  pub turn_goes : (accepted || continues) ≡ true → turn_lines continues p e ≡ all_lines (event_lines p e)
   turn_goes h =
-      ap (λ b. event_line p e ++ (if b then [] else last_line (after p (verdict p.world e.0)))) (goes_with h) ∙ append-nil (event_line p e)
+      ap (λ b. all_lines (event_lines p e) ++ (if b then [] else last_line (after p (verdict p.world e.0)))) (goes_with h) ∙ append-nil (all_lines (event_lines p e))
 
-  pub turn_stops : (accepted || continues) ≡ false → turn_lines continues p e ≡ event_line p e ++ last_line q
+  pub turn_stops : (accepted || continues) ≡ false → turn_lines continues p e ≡ all_lines (event_lines p e) ++ last_line q
   turn_stops h =
-      ap (λ b. event_line p e ++ (if b then [] else last_line (after p (verdict p.world e.0)))) (stops_with h)
-      ∙ ap (λ (r : Progress). event_line p e ++ last_line r) (sym next.progress)
+      ap (λ b. all_lines (event_lines p e) ++ (if b then [] else last_line (after p (verdict p.world e.0)))) (stops_with h)
+      ∙ ap (λ (r : Progress). all_lines (event_lines p e) ++ last_line r) (sym next.progress)
 
   -- where the event stands first
   module _ (read rest : Read) (first : read ≡ (e ∷ rest.0, rest.1)) where
@@ -198,9 +198,6 @@ accepts_end p read last = ap (λ (r : Read). accepts p r.0 r.1) last
 
 pub accepts_fault : (p : Progress) (read : Read) (fault : Code × ℕ) → read ≡ ([], Some fault) → accepts p read.0 read.1 ≡ false
 accepts_fault p read fault last = ap (λ (r : Read). accepts p r.0 r.1) last
-
-pub one_line : (line : List ℕ) (lines : List (List ℕ)) → lines ≡ line ∷ [] → all_lines lines ≡ line
-one_line line lines e = ap all_lines e ∙ append-nil line
 
 -- the first line, and the others, as a slice reads them
 pub lines_split : (lines : List (List ℕ)) (d : List ℕ) → 1 ≤ length lines → all_lines lines ≡ get_or lines 0 d ++ all_lines (take (length lines - 1) (drop 1 lines))

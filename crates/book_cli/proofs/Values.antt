@@ -8,15 +8,15 @@ use Rattle.events.specs.Verdicts.{Verdict, Accepted, Redundant, Printed, Refused
 use Rattle.events.specs.Laws.{PrintedIsTrue, IsPrintedOrRefused, ValueTriplesPrint}
 use Rattle.events.specs.ModelValues.{IsModelValue}
 use Rattle.book_cli.specs.declared.progress.Progress.{Progress}
-use Rattle.book_cli.specs.Report.{is_refusal, after, goes_on, verdict_line, event_line, begin}
+use Rattle.book_cli.specs.Report.{is_refusal, after, goes_on, verdict_lines, event_lines, begin}
 use Rattle.book_cli.specs.Values.{turns, IsValueLine, PrintsTheModel, PrintedValuesAreTrue}
 
 module _ (is_true : PrintedIsTrue) (prints : ValueTriplesPrint) where
   -- the line of a value-triple that isn't refused
-  value_line_is : (p : Progress) (e : Datum × ℕ) (form : Datum) → event_of e.0 ≡ Ok (ValueTriple form) → is_refusal (verdict p.world e.0) ≡ false → IsValueLine p.world form (event_line p e)
+  value_line_is : (p : Progress) (e : Datum × ℕ) (form : Datum) → event_of e.0 ≡ Ok (ValueTriple form) → is_refusal (verdict p.world e.0) ≡ false → IsValueLine p.world form (event_lines p e)
   value_line_is p e form is accepted = by_verdict (verdict p.world e.0) refl (prints p.world e.0 form is) accepted
     where
-      by_verdict : (v : Verdict) → verdict p.world e.0 ≡ v → IsPrintedOrRefused v → is_refusal v ≡ false → IsValueLine p.world form (event_line p e)
+      by_verdict : (v : Verdict) → verdict p.world e.0 ≡ v → IsPrintedOrRefused v → is_refusal v ≡ false → IsValueLine p.world form (event_lines p e)
       by_verdict (Accepted next) v_is h a = absurd h
       by_verdict Redundant v_is h a = absurd h
       by_verdict (Refused why) v_is h a = absurd (cc)
@@ -26,7 +26,7 @@ module _ (is_true : PrintedIsTrue) (prints : ValueTriplesPrint) where
           record {
             value = v;
             is_value = subst (λ part. IsModelValue p.world part v) same t.2;
-            line_is = ap (λ w. verdict_line w e (p.handled + 1)) v_is;
+            lines_are = ap (λ w. verdict_lines w e (p.handled + 1)) v_is;
           }
 
   turn_is_true : (p : Progress) (e : Datum × ℕ) → PrintsTheModel p e

@@ -10,7 +10,7 @@ use Rattle.terms.specs.Sound.{initial_world}
 use Rattle.worlds.specs.Entries.{further_theorems}
 use Rattle.book_cli.specs.declared.progress.Progress.{Progress}
 use Rattle.events.specs.declared.refusal.Refusal.TheVariants.{Coded}
-use Rattle.events.specs.Lines.{ok_line, redundant_line, value_line, refused_line}
+use Rattle.events.specs.Lines.{ok_line, redundant_line, value_line, refused_line, refused_lines}
 use Rattle.events.specs.Verdicts.{Verdict, Accepted, Redundant, Printed, Refused, verdict}
 
 -- forms with the places of their first bytes, and the first fault with its place, or the end
@@ -52,16 +52,16 @@ all_lines (line ∷ lines) = line ++ all_lines lines
 abbrev pub last_line : Progress → List ℕ
 last_line p = codes "accepted " ++ (decimal p.counted ++ (codes " events " ++ (decimal (further_theorems p.world) ++ codes " theorems\n")))
 
--- the line of a form, by its verdict and its index
-abbrev pub verdict_line : Verdict → Datum × ℕ → ℕ → List ℕ
-verdict_line (Accepted next) e index = ok_line e.0
-verdict_line Redundant e index = redundant_line e.0
-verdict_line (Printed v) e index = value_line v
-verdict_line (Refused why) e index = refused_line index why e.1
+-- the lines of a form, by its verdict and its index
+abbrev pub verdict_lines : Verdict → Datum × ℕ → ℕ → List (List ℕ)
+verdict_lines (Accepted next) e index = ok_line e.0 ∷ []
+verdict_lines Redundant e index = redundant_line e.0 ∷ []
+verdict_lines (Printed v) e index = value_line v ∷ []
+verdict_lines (Refused why) e index = refused_lines index why e.1
 
--- the line of an event
-abbrev pub event_line : Progress → Datum × ℕ → List ℕ
-event_line p e = verdict_line (verdict p.world e.0) e (p.handled + 1)
+-- the lines of an event
+abbrev pub event_lines : Progress → Datum × ℕ → List (List ℕ)
+event_lines p e = verdict_lines (verdict p.world e.0) e (p.handled + 1)
 
 -- the lines at the end of what could be read
 abbrev pub end_lines : Progress → Option (Code × ℕ) → List ℕ
@@ -72,13 +72,13 @@ end_lines p (Some fault) = refused_line (p.handled + 1) (Coded fault.0 Absent) f
 abbrev pub report_from : Bool → Progress → List (Datum × ℕ) → Option (Code × ℕ) → List ℕ
 report_from continues p [] end = end_lines p end
 report_from continues p (e ∷ es) end =
-    event_line p e
+    all_lines (event_lines p e)
     ++ (if goes_on continues (verdict p.world e.0) then report_from continues (after p (verdict p.world e.0)) es end else last_line (after p (verdict p.world e.0)))
 
 -- the lines of an event, with the last line where the run ends with it
 abbrev pub turn_lines : Bool → Progress → Datum × ℕ → List ℕ
 turn_lines continues p e =
-    event_line p e ++ (if goes_on continues (verdict p.world e.0) then [] else last_line (after p (verdict p.world e.0)))
+    all_lines (event_lines p e) ++ (if goes_on continues (verdict p.world e.0) then [] else last_line (after p (verdict p.world e.0)))
 
 -- the world that the forms make
 abbrev pub world_from : Bool → Progress → List (Datum × ℕ) → World

@@ -8,7 +8,7 @@ use Rattle.events.specs.Verdicts.{Printed, verdict}
 use Rattle.events.specs.Lines.{value_line}
 use Rattle.events.specs.ModelValues.{IsModelValue}
 use Rattle.book_cli.specs.declared.progress.Progress.{Progress}
-use Rattle.book_cli.specs.Report.{Read, begin, after, is_refusal, goes_on, event_line}
+use Rattle.book_cli.specs.Report.{Read, begin, after, is_refusal, goes_on, event_lines}
 
 -- the events that a run handles, each with the progress before it
 abbrev pub turns : Bool → Progress → List (Datum × ℕ) → List (Progress × (Datum × ℕ))
@@ -16,15 +16,15 @@ turns continues p [] = []
 turns continues p (e ∷ es) =
     (p, e) ∷ (if goes_on continues (verdict p.world e.0) then turns continues (after p (verdict p.world e.0)) es else [])
 
--- the line is `value ` with the text of the value that the form has in the model, in this world
-pub record IsValueLine (W : World) (form : Datum) (line : List ℕ) : Type 0 where
+-- the one line is `value ` with the text of the value that the form has in the model, in this world
+pub record IsValueLine (W : World) (form : Datum) (lines : List (List ℕ)) : Type 0 where
   pub value : Val
   pub is_value : IsModelValue W form value
-  pub line_is : line ≡ value_line value
+  pub lines_are : lines ≡ value_line value ∷ []
 
 -- A value-triple that isn't refused has the line of its form's value in the world before it, and no other event prints a value.
 pub record PrintsTheModel (p : Progress) (e : Datum × ℕ) : Type 0 where
-  pub value_triple : (form : Datum) → event_of e.0 ≡ Ok (ValueTriple form) → is_refusal (verdict p.world e.0) ≡ false → IsValueLine p.world form (event_line p e)
+  pub value_triple : (form : Datum) → event_of e.0 ≡ Ok (ValueTriple form) → is_refusal (verdict p.world e.0) ≡ false → IsValueLine p.world form (event_lines p e)
   pub no_other : (v : Val) → verdict p.world e.0 ≡ Printed v → (form : Datum) × (event_of e.0 ≡ Ok (ValueTriple form))
 
 -- each value that is printed for what was read is the model's

@@ -9,7 +9,7 @@ ghost use Rattle.terms.specs.Sound.{Sound};
 ghost use Rattle.events.specs.Lines.{refused_line};
 ghost use Rattle.events.specs.Verdicts.{verdict};
 ghost use Rattle.lisp_reader.specs.declared.limits.TheConstants.{MAX_FORMS};
-ghost use Rattle.book_cli.specs.Report.{all_lines, IsNext, event_line, turn_lines, last_line, end_lines, report_of, accepts_all, world_made};
+ghost use Rattle.book_cli.specs.Report.{all_lines, IsNext, event_lines, turn_lines, last_line, end_lines, report_of, accepts_all, world_made};
 
 use crate::progress::Progress;
 use crate::stop::Stop;
@@ -48,8 +48,8 @@ fn handle<K: Sink>(
     requires proper { IsProper located.now.form }
     requires few { progress.old.handled < 2 ^ 64 - 1 }
     requires counted { progress.old.counted ≤ progress.old.handled }
-    ensures written { OnOk result (Grows (K.held out.old) (K.held out.new) (event_line progress.old (form_of located.now.form, located.now.place))) }
-    ensures cut { OnErr result (GrowsByFront (K.held out.old) (K.held out.new) (event_line progress.old (form_of located.now.form, located.now.place))) }
+    ensures written { OnOk result (Grows (K.held out.old) (K.held out.new) (all_lines (event_lines progress.old (form_of located.now.form, located.now.place)))) }
+    ensures cut { OnErr result (GrowsByFront (K.held out.old) (K.held out.new) (all_lines (event_lines progress.old (form_of located.now.form, located.now.place)))) }
     ensures next { IfOk result (IsNext (verdict progress.old.world (form_of located.now.form)) progress.old progress.new) }
     ensures cause { IsErrOf result Stop.WriteFault → Rose (K.faults out.old) (K.faults out.new) }
     ensures later { K.faults out.old ≤ K.faults out.new }

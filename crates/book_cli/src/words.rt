@@ -12,9 +12,6 @@ use lists::{Seq, Text};
 use std::alloc::{AllocError, AllocFailed, Global};
 use std::io;
 
-#[cfg(test)]
-mod tests;
-
 /// What a command line asks for: that a book is checked.
 #[derive(Clone, Copy, Debug, PartialEq, Eq)]
 pub(crate) struct ModeLine {

@@ -1,14 +1,14 @@
 -- Keys, one at a time.
 use Rattle.std.proofs.Common.{◌≡◌, ◌∙◌, ◌-◌, ◌≤◌, List, [], ◌∷◌, length, get_or, take, drop, map, Ok, ap, sym, arith}
 use Rattle.std.proofs.Math.Seq.{take-length}
-use Rattle.lisp_data.specs.Values.{Name}
 use Rattle.lisp_data.specs.FormView.{form_of}
 use Rattle.lisp_data.specs.declared.form.Form.{Form}
 use Rattle.term_forms.specs.Translation.{and_then}
 use Rattle.event_forms.specs.Keys.{with_key, keys}
 use Rattle.event_forms.specs.declared.keys.Keyed.{Keyed}
+use Rattle.event_forms.specs.declared.keys.SeenKeys.{SeenKeys}
 
-pub keys-step : (kind : Keyed) (seen more : List Name) (parts : List Form) (k v : Form) → 2 ≤ length parts → k ≡ get_or parts 0 k → v ≡ get_or parts 1 v →
+pub keys-step : (kind : Keyed) (seen more : SeenKeys) (parts : List Form) (k v : Form) → 2 ≤ length parts → k ≡ get_or parts 0 k → v ≡ get_or parts 1 v →
     with_key kind seen (form_of k) (form_of v) ≡ Ok more → keys kind seen (map form_of parts) ≡ keys kind more (map form_of (take (length parts - 2) (drop 2 parts)))
 keys-step kind seen more [] k v n e f r = absurd (omega arith)
 keys-step kind seen more (x ∷ []) k v n e f r = absurd (omega arith)

@@ -1,19 +1,19 @@
 -- Declarations of functions.
-use Rattle.std.specs.Prelude.{ℕ, Bool, false, ◌||◌, if◌then◌else◌, codes, is_some, List, [], ◌∷◌, Option, Some, None, Ok}
-use Rattle.std.specs.List.{list_all, list_any}
-use Rattle.lisp_data.specs.Values.{Name}
+use Rattle.std.specs.Prelude.{ℕ, Bool, ◌||◌, if◌then◌else◌, codes, is_some, List, [], ◌∷◌, Option, Some, None, Ok}
+use Rattle.std.specs.List.{list_all}
 use Rattle.lisp_data.specs.Datum.{Datum}
 use Rattle.term_forms.specs.Translation.{Outcome, and_then}
 use Rattle.proof_texts.specs.Items.{items_of, is_word, symbol_of, text_of}
 use Rattle.event_forms.specs.Refused.{bad_part}
-use Rattle.event_forms.specs.Keys.{keys, value_of, has_unbuilt}
+use Rattle.event_forms.specs.Keys.{keys, value_of}
 use Rattle.event_forms.specs.declared.keys.Keyed.TheVariants.{Function}
+use Rattle.event_forms.specs.declared.keys.SeenKeys.{SeenKeys}
 
 abbrev pub is_symbol : Datum → Bool
 is_symbol form = is_some (symbol_of form)
 
 -- `(xargs key value ..)`, `(ignore x ..)` or `(ignorable x ..)`, after keys that were seen
-abbrev pub declared : List Name → Option (List Datum) → Outcome (List Name)
+abbrev pub declared : SeenKeys → Option (List Datum) → Outcome (SeenKeys)
 declared seen None = bad_part (codes "declare")
 declared seen (Some []) = bad_part (codes "declare")
 declared seen (Some (word ∷ parts)) =
@@ -21,7 +21,7 @@ declared seen (Some (word ∷ parts)) =
     else if is_word (codes "IGNORE") word || is_word (codes "IGNORABLE") word then (if list_all is_symbol parts then Ok seen else bad_part (codes "declare"))
     else bad_part (codes "declare")
 
-abbrev pub all_declared : List Name → List Datum → Outcome (List Name)
+abbrev pub all_declared : SeenKeys → List Datum → Outcome (SeenKeys)
 all_declared seen [] = Ok seen
 all_declared seen (d ∷ ds) = and_then (declared seen (items_of d)) (λ seen. all_declared seen ds)
 
@@ -31,16 +31,16 @@ declare_list None = None
 declare_list (Some []) = None
 declare_list (Some (word ∷ ds)) = if is_word (codes "DECLARE") word then Some ds else None
 
-abbrev pub of_declare : List Name → Option (List Datum) → Outcome (List Name)
+abbrev pub of_declare : SeenKeys → Option (List Datum) → Outcome (SeenKeys)
 of_declare seen None = bad_part (codes "body")
 of_declare seen (Some ds) = all_declared seen ds
 
 -- a part before the body: a string or a declaration
-abbrev pub before_body : List Name → Datum → Outcome (List Name)
+abbrev pub before_body : SeenKeys → Datum → Outcome (SeenKeys)
 before_body seen form = if is_some (text_of form) then Ok seen else of_declare seen (declare_list (items_of form))
 
 -- the last part is the body
-abbrev pub body_of : List Name → Datum → List Datum → Outcome Datum
+abbrev pub body_of : SeenKeys → Datum → List Datum → Outcome Datum
 body_of seen part [] = Ok part
 body_of seen part (p ∷ ps) = and_then (before_body seen part) (λ seen. body_of seen p ps)
 
@@ -68,16 +68,3 @@ value_in key (Some ds) = value_among key ds
 abbrev pub declared_value : List ℕ → Datum → List Datum → Option Datum
 declared_value key part [] = None
 declared_value key part (p ∷ ps) = or_after (value_in key (declare_list (items_of part))) (declared_value key p ps)
-
--- a declaration has a key that isn't there yet
-abbrev pub is_early : Option (List Datum) → Bool
-is_early items = has_unbuilt Function (xargs_of items)
-
-abbrev pub any_early : Option (List Datum) → Bool
-any_early None = false
-any_early (Some ds) = list_any (λ d. is_early (items_of d)) ds
-
--- a part before the body has one
-abbrev pub declares_unbuilt : Datum → List Datum → Bool
-declares_unbuilt part [] = false
-declares_unbuilt part (p ∷ ps) = any_early (declare_list (items_of part)) || declares_unbuilt p ps

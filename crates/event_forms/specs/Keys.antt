@@ -1,5 +1,5 @@
 -- Keys with their values. A key is a keyword, and its value stands behind it.
-use Rattle.std.specs.Prelude.{ℕ, Bool, true, false, ◌||◌, not, if◌then◌else◌, bytes_eq, codes, List, [], ◌∷◌, ◌++◌, Option, Some, None, Ok}
+use Rattle.std.specs.Prelude.{ℕ, Bool, not, if◌then◌else◌, bytes_eq, codes, List, [], ◌∷◌, ◌++◌, Option, Some, None, Ok}
 use Rattle.std.specs.List.{list_any}
 use Rattle.lisp_data.specs.Values.{Name}
 use Rattle.lisp_data.specs.Datum.{Datum}
@@ -7,15 +7,17 @@ use Rattle.term_forms.specs.Names.{begins_with}
 use Rattle.terms.specs.Worlds.{is_in}
 use Rattle.term_forms.specs.Translation.{Outcome, and_then}
 use Rattle.proof_texts.specs.Items.{items_of, is_word, symbol_of}
-use Rattle.event_forms.specs.Clauses.{are_clauses}
+use Rattle.event_forms.specs.Clauses.{further, named_with}
 use Rattle.event_forms.specs.Refused.{bad_part, bad_key, unknown_key}
+use Rattle.event_forms.specs.declared.clauses.ClauseKind.TheVariants.{Proof, Hints}
 use Rattle.event_forms.specs.declared.keys.Keyed.{Keyed}
 use Rattle.event_forms.specs.declared.keys.Keyed.TheVariants.{Function, Theorem, Book}
+use Rattle.event_forms.specs.declared.keys.SeenKeys.{SeenKeys}
 
 -- the keys that an event or a declaration takes
 unfoldable pub known_keys : Keyed → List Name
-known_keys Function = codes ":GUARD" ∷ codes ":VERIFY-GUARDS" ∷ codes ":GUARD-HINTS" ∷ codes ":MEASURE" ∷ codes ":PROOF" ∷ []
-known_keys Theorem = codes ":RULE-CLASSES" ∷ codes ":PROOF" ∷ []
+known_keys Function = codes ":GUARD" ∷ codes ":VERIFY-GUARDS" ∷ codes ":GUARD-HINTS" ∷ codes ":MEASURE" ∷ codes ":HOW" ∷ codes ":PROOF" ∷ []
+known_keys Theorem = codes ":RULE-CLASSES" ∷ codes ":HOW" ∷ codes ":PROOF" ∷ []
 known_keys Book = codes ":DIR" ∷ []
 
 -- the part that is wrong where no keyword stands in a key's place
@@ -24,11 +26,29 @@ part_word Function = codes "declare"
 part_word Theorem = codes "arguments"
 part_word Book = codes "arguments"
 
--- the proofs of a function are clauses, and the directory of a book is the system's; another key may have any value
-abbrev pub is_value : Keyed → Name → Datum → Bool
-is_value Function k v = if bytes_eq k (codes ":PROOF") then are_clauses (items_of v) else true
-is_value Theorem k v = true
-is_value Book k v = is_word (codes ":SYSTEM") v
+-- The conditions that the value of a key names, behind those that were named before; nothing where it has another shape or names one again. A
+-- function's proofs and hints are clauses, each of a condition. A theorem has one condition, which its proof names and so do its hints, a list of
+-- steps. The directory of a book is the system's, and another key may have any value.
+abbrev pub with_goal : List Name → Option (List Datum) → Option (List Name)
+with_goal named None = None
+with_goal named (Some steps) = further named (Some (codes ":GOAL"))
+
+abbrev pub in_function : List Name → Name → Datum → Option (List Name)
+in_function named k v =
+    if bytes_eq k (codes ":PROOF") then named_with Proof named (items_of v)
+    else if bytes_eq k (codes ":HOW") then named_with Hints named (items_of v)
+    else Some named
+
+abbrev pub in_theorem : List Name → Name → Datum → Option (List Name)
+in_theorem named k v =
+    if bytes_eq k (codes ":PROOF") then further named (Some (codes ":GOAL"))
+    else if bytes_eq k (codes ":HOW") then with_goal named (items_of v)
+    else Some named
+
+abbrev pub named_by : Keyed → List Name → Name → Datum → Option (List Name)
+named_by Function named k v = in_function named k v
+named_by Theorem named k v = in_theorem named k v
+named_by Book named k v = if is_word (codes ":SYSTEM") v then Some named else None
 
 -- a keyword begins with a colon
 abbrev pub is_keyword : Name → Bool
@@ -46,15 +66,22 @@ abbrev pub key_of : Keyed → List Name → Option Name → Outcome Name
 key_of kind seen None = bad_part (part_word kind)
 key_of kind seen (Some k) = further_key kind seen k
 
+-- before the first key
+abbrev pub no_keys : SeenKeys
+no_keys = record { keys = []; named = [] }
+
+abbrev pub with_named : List Name → Name → Option (List Name) → Outcome SeenKeys
+with_named seen key None = bad_key key
+with_named seen key (Some named) = Ok (record { keys = seen ++ key ∷ []; named = named })
+
 -- a further key with its value, after the keys that were seen
-abbrev pub with_key : Keyed → List Name → Datum → Datum → Outcome (List Name)
-with_key kind seen k v =
-    and_then (key_of kind seen (symbol_of k)) (λ key. if is_value kind key v then Ok (seen ++ key ∷ []) else bad_key key)
+abbrev pub with_key : Keyed → SeenKeys → Datum → Datum → Outcome SeenKeys
+with_key kind seen k v = and_then (key_of kind seen.keys (symbol_of k)) (λ key. with_named seen.keys key (named_by kind seen.named key v))
 
 -- the keys after those that were seen, each with a value
-abbrev pub keys : Keyed → List Name → List Datum → Outcome (List Name)
+abbrev pub keys : Keyed → SeenKeys → List Datum → Outcome SeenKeys
 keys kind seen [] = Ok seen
-keys kind seen (k ∷ []) = and_then (key_of kind seen (symbol_of k)) bad_key
+keys kind seen (k ∷ []) = and_then (key_of kind seen.keys (symbol_of k)) bad_key
 keys kind seen (k ∷ v ∷ parts) = and_then (with_key kind seen k v) (λ seen. keys kind seen parts)
 
 -- the value of a key
@@ -63,11 +90,9 @@ value_of key [] = None
 value_of key (k ∷ []) = None
 value_of key (k ∷ v ∷ parts) = if is_word key k then Some v else value_of key parts
 
--- keys that aren't there yet
-abbrev pub is_unbuilt : Keyed → Datum → Bool
-is_unbuilt Function k = is_word (codes ":HOW") k
-is_unbuilt Theorem k = is_word (codes ":HOW") k || is_word (codes ":ASSUMING") k
-is_unbuilt Book k = false
+-- a key of a theorem that isn't there yet
+abbrev pub is_unbuilt : Datum → Bool
+is_unbuilt k = is_word (codes ":ASSUMING") k
 
 -- the forms in keys' places: keys and values stand in turn, a key first
 abbrev pub key_places : List Datum → List Datum
@@ -76,5 +101,5 @@ key_places (k ∷ []) = k ∷ []
 key_places (k ∷ v ∷ parts) = k ∷ key_places parts
 
 -- one of them stands in a key's place
-abbrev pub has_unbuilt : Keyed → List Datum → Bool
-has_unbuilt kind parts = list_any (is_unbuilt kind) (key_places parts)
+abbrev pub has_unbuilt : List Datum → Bool
+has_unbuilt parts = list_any is_unbuilt (key_places parts)

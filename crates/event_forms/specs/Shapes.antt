@@ -2,29 +2,39 @@
 use Rattle.std.specs.Prelude.{ℕ, Bool, false, if◌then◌else◌, bytes_eq, codes, List, [], ◌∷◌, Option, Some, None, Ok}
 use Rattle.lisp_data.specs.Values.{Name}
 use Rattle.lisp_data.specs.Datum.{Datum}
+use Rattle.terms.specs.Evaluation.{then_with}
 use Rattle.terms.specs.Worlds.{is_in}
 use Rattle.term_forms.specs.Translation.{Outcome, and_then, map_outcome}
 use Rattle.proof_texts.specs.Items.{items_of, is_word, symbol_of, text_of}
 use Rattle.event_forms.specs.Refused.{not_an_event, bad_part, unknown_book, or_refused}
-use Rattle.event_forms.specs.Keys.{keys, value_of, has_unbuilt}
-use Rattle.event_forms.specs.Clauses.{given_clauses}
-use Rattle.event_forms.specs.Declarations.{body_of, declared_value, declares_unbuilt}
+use Rattle.event_forms.specs.Keys.{no_keys, keys, value_of, has_unbuilt}
+use Rattle.event_forms.specs.Clauses.{clauses_in, hints_in, given_items}
+use Rattle.event_forms.specs.Declarations.{body_of, declared_value}
 use Rattle.event_forms.specs.declared.keys.Keyed.TheVariants.{Theorem, Book}
 
--- A function's parts: its name, its formals, its body, its measure, if one is given, and the proofs of its conditions by their names.
+-- A function's parts: its name, its formals, its body, its measure, if one is given, and the proofs and the hints of its
+-- conditions by their names.
 pub record FunctionParts : Type 0 where
   pub name : Name
   pub formals : List Datum
   pub body : Datum
   pub measure : Option Datum
   pub proofs : List (Name × Datum)
+  pub hows : List (Name × List Datum)
 
--- An event's parts: of a theorem its name, its formula and its proof, if it has one, of a value-triple the form whose value it prints.
+-- A theorem's parts: its name, its formula, its proof and its hint steps, if it has them.
+pub record TheoremParts : Type 0 where
+  pub name : Name
+  pub formula : Datum
+  pub proof : Option Datum
+  pub how : Option (List Datum)
+
+-- An event's parts: of a book its name, of a value-triple the form whose value it prints.
 pub data Event : Type 0 where
   InPackage : Event
   IncludeBook : (book : List ℕ) → Event
   Defun : (function : FunctionParts) → Event
-  Defthm : (name : Name) (formula : Datum) (proof : Option Datum) → Event
+  Defthm : (theorem : TheoremParts) → Event
   ValueTriple : (form : Datum) → Event
 
 -- the books that may be included
@@ -51,7 +61,7 @@ in_package (p ∷ q ∷ parts) = and_then (only_package p) (λ _. bad_part (code
 abbrev pub include_book : List Datum → Outcome Event
 include_book [] = bad_part (codes "arguments")
 include_book (p ∷ parts) =
-    and_then (string_of p) (λ s. if is_in books s then map_outcome (λ seen. IncludeBook s) (keys Book [] parts) else unknown_book s)
+    and_then (string_of p) (λ s. if is_in books s then map_outcome (λ seen. IncludeBook s) (keys Book no_keys parts) else unknown_book s)
 
 abbrev pub name_of : Datum → Outcome Name
 name_of form = or_refused (bad_part (codes "name")) (symbol_of form)
@@ -66,23 +76,33 @@ function_parts f xs p ps body = record {
   formals = xs;
   body = body;
   measure = declared_value (codes ":MEASURE") p ps;
-  proofs = given_clauses (declared_value (codes ":PROOF") p ps);
+  proofs = clauses_in (given_items (declared_value (codes ":PROOF") p ps));
+  hows = hints_in (given_items (declared_value (codes ":HOW") p ps));
 }
 
 -- `(defun f (x ..) part .. body)`, from the formals on
 abbrev pub defun_after : Name → List Datum → Outcome Event
 defun_after f [] = bad_part (codes "arguments")
 defun_after f (xs ∷ []) = and_then (formals_of xs) (λ xs. bad_part (codes "arguments"))
-defun_after f (xs ∷ p ∷ ps) = and_then (formals_of xs) (λ xs. map_outcome (λ body. Defun (function_parts f xs p ps body)) (body_of [] p ps))
+defun_after f (xs ∷ p ∷ ps) = and_then (formals_of xs) (λ xs. map_outcome (λ body. Defun (function_parts f xs p ps body)) (body_of no_keys p ps))
 
-abbrev pub defun_of : List Datum → Outcome Event
-defun_of [] = bad_part (codes "arguments")
-defun_of (f ∷ parts) = and_then (name_of f) (λ f. defun_after f parts)
+abbrev pub defun : List Datum → Outcome Event
+defun [] = bad_part (codes "arguments")
+defun (f ∷ parts) = and_then (name_of f) (λ f. defun_after f parts)
+
+-- a theorem by its name, its formula and its keys
+abbrev pub theorem_parts : Name → Datum → List Datum → TheoremParts
+theorem_parts n formula parts = record {
+  name = n;
+  formula = formula;
+  proof = value_of (codes ":PROOF") parts;
+  how = then_with (value_of (codes ":HOW") parts) items_of;
+}
 
 -- `(defthm n formula key value ..)`
 abbrev pub defthm_after : Name → List Datum → Outcome Event
 defthm_after n [] = bad_part (codes "arguments")
-defthm_after n (formula ∷ parts) = map_outcome (λ seen. Defthm n formula (value_of (codes ":PROOF") parts)) (keys Theorem [] parts)
+defthm_after n (formula ∷ parts) = map_outcome (λ seen. Defthm (theorem_parts n formula parts)) (keys Theorem no_keys parts)
 
 abbrev pub defthm_of : List Datum → Outcome Event
 defthm_of [] = bad_part (codes "arguments")
@@ -93,17 +113,10 @@ abbrev pub value_triple : List Datum → Outcome Event
 value_triple (form ∷ []) = Ok (ValueTriple form)
 value_triple _ = bad_part (codes "arguments")
 
--- keys that aren't there yet make a form no event, whatever else is wrong with it
-abbrev pub is_early_defun : List Datum → Bool
-is_early_defun (f ∷ xs ∷ p ∷ ps) = declares_unbuilt p ps
-is_early_defun _ = false
-
+-- a key that isn't there yet makes a form no event, whatever else is wrong with it
 abbrev pub is_early_defthm : List Datum → Bool
-is_early_defthm (n ∷ formula ∷ parts) = has_unbuilt Theorem parts
+is_early_defthm (n ∷ formula ∷ parts) = has_unbuilt parts
 is_early_defthm _ = false
-
-abbrev pub defun : List Datum → Outcome Event
-defun parts = if is_early_defun parts then not_an_event else defun_of parts
 
 abbrev pub defthm : List Datum → Outcome Event
 defthm parts = if is_early_defthm parts then not_an_event else defthm_of parts

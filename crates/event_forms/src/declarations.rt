@@ -1,16 +1,17 @@
 //! Declarations of functions.
 
-ghost use Rattle.std.specs.Prelude.{◌≡◌, [], map, option_map, IfSome, IfOk};
-ghost use Rattle.std.specs.List.{list_all, list_any};
+ghost use Rattle.std.specs.Prelude.{◌≡◌, map, option_map, IfSome, IfOk};
+ghost use Rattle.std.specs.List.{list_all};
 ghost use Rattle.std.specs.Option.{option_copied};
 ghost use Rattle.lisp_data.specs.FormView.{form_of, IsProper, AllProper};
 ghost use Rattle.proof_texts.specs.Items as lists;
 ghost use Rattle.event_forms.specs.Declarations as spec;
+ghost use Rattle.event_forms.specs.Keys.{no_keys};
 ghost use Rattle.event_forms.specs.Refused.{Says};
 
 use crate::errors::EventError;
-use crate::keys::{Keyed, has_unbuilt, read_keys, value_of};
-use lisp_data::{Form, Symbols};
+use crate::keys::{Keyed, SeenKeys, read_keys, value_of};
+use lisp_data::Form;
 use proof_texts::{is_word, items, symbol, text};
 use std::alloc::Global;
 
@@ -28,7 +29,11 @@ fn all_symbols(forms: &[Form]) -> bool
 }
 
 /// The keys that were seen and those of a declaration: `(xargs key value ..)`, `(ignore x ..)` or `(ignorable x ..)`.
-fn read_declaration(alloc: Global, seen: Symbols, declaration: &Form) -> Result<Symbols, EventError>
+fn read_declaration(
+    alloc: Global,
+    seen: SeenKeys,
+    declaration: &Form,
+) -> Result<SeenKeys, EventError>
     requires { IsProper declaration.now }
     ensures { Says (λ keys. keys) (spec.declared seen (lists.items_of (form_of declaration.now))) result }
 {
@@ -70,9 +75,9 @@ fn declarations(part: &Form) -> Option<&[Form]>
 #[tactic(auto, using(proof_texts::proofs::ItemLemmas::proper_at))]
 fn read_declarations(
     alloc: Global,
-    mut seen: Symbols,
+    mut seen: SeenKeys,
     declarations: &[Form],
-) -> Result<Symbols, EventError>
+) -> Result<SeenKeys, EventError>
     requires { AllProper declarations.now }
     ensures { Says (λ keys. keys) (spec.all_declared seen (map form_of declarations.now)) result }
 {
@@ -83,7 +88,7 @@ fn read_declarations(
 }
 
 /// The keys that were seen and those of a part before the body: a string or a list that begins with DECLARE.
-fn before_body(alloc: Global, seen: Symbols, part: &Form) -> Result<Symbols, EventError>
+fn before_body(alloc: Global, seen: SeenKeys, part: &Form) -> Result<SeenKeys, EventError>
     requires { IsProper part.now }
     ensures { Says (λ keys. keys) (spec.before_body seen (form_of part.now)) result }
 {
@@ -108,10 +113,10 @@ pub(crate) fn body<'a>(
 ) -> Result<&'a Form, EventError>
     requires first { IsProper first.now }
     requires rest { AllProper rest.now }
-    ensures body { Says (λ body. form_of body.now) (spec.body_of [] (form_of first.now) (map form_of rest.now)) result }
+    ensures body { Says (λ body. form_of body.now) (spec.body_of no_keys (form_of first.now) (map form_of rest.now)) result }
     ensures proper { IfOk result (λ body. IsProper body.now) }
 {
-    let mut seen = Symbols::new(alloc);
+    let mut seen = SeenKeys::none(alloc);
     let mut part = first;
     for next in rest {
         seen = before_body(alloc, seen, part)?;
@@ -175,42 +180,4 @@ pub(crate) fn declared_value<'a>(key: &str, first: &'a Form, rest: &'a [Form]) -
         part = next;
     }
     None
-}
-
-/// Whether a declaration has a key that isn't there yet.
-fn is_early(declaration: &Form) -> bool
-    requires { IsProper declaration.now }
-    ensures { result ≡ spec.is_early (lists.items_of (form_of declaration.now)) }
-{
-    has_unbuilt(Keyed::Function, xargs(declaration))
-}
-
-#[tactic(auto, using(proof_texts::proofs::ItemLemmas::proper_at))]
-fn any_early(declarations: &[Form]) -> bool
-    requires { AllProper declarations.now }
-    ensures { result ≡ list_any (λ d. spec.is_early (lists.items_of d)) (map form_of declarations.now) }
-{
-    for declaration in declarations {
-        if is_early(declaration) {
-            return true;
-        }
-    }
-    false
-}
-
-/// Whether a part before the body declares a key that isn't there yet.
-#[tactic(auto, using(crate::proofs::DeclarationLemmas::parts))]
-pub(crate) fn declares_unbuilt(first: &Form, rest: &[Form]) -> bool
-    requires first { IsProper first.now }
-    requires rest { AllProper rest.now }
-    ensures { result ≡ spec.declares_unbuilt (form_of first.now) (map form_of rest.now) }
-{
-    let mut part = first;
-    for next in rest {
-        if declarations(part).is_some_and(any_early) {
-            return true;
-        }
-        part = next;
-    }
-    false
 }

@@ -1,18 +1,81 @@
 //! Keys with their values.
 
-ghost use Rattle.std.specs.Prelude.{◌≡◌, true, map, option_map, IfOk, IfSome};
+ghost use Rattle.std.specs.Prelude.{◌≡◌, Some, codes, map, option_map, IfOk, IfSome};
 ghost use Rattle.std.specs.Option.{option_copied};
 ghost use Rattle.lisp_data.specs.FormView.{form_of, IsProper, AllProper};
 ghost use Rattle.terms.specs.Worlds.{is_in};
 ghost use Rattle.proof_texts.specs.Items as lists;
+ghost use Rattle.event_forms.specs.Clauses.{further};
 ghost use Rattle.event_forms.specs.Keys as spec;
 ghost use Rattle.event_forms.specs.Refused.{Says};
 
-use crate::clauses::are_clauses;
+use crate::clauses::{ClauseKind, add_name, name_conditions};
 use crate::errors::EventError;
 use lisp_data::{Form, Memory, Symbol, Symbols};
-use proof_texts::{contains, is_among, is_word, symbol};
+use proof_texts::{contains, is_among, is_word, items, symbol};
 use std::alloc::Global;
+
+/// The keys that were seen, and the conditions that their values name.
+#[derive(Drop)]
+pub(crate) struct SeenKeys {
+    pub(crate) keys: Symbols,
+    pub(crate) named: Symbols,
+}
+
+impl SeenKeys {
+    /// Before the first key.
+    pub(crate) fn none(alloc: Global) -> SeenKeys
+        ensures { result ≡ spec.no_keys }
+    {
+        SeenKeys {
+            keys: Symbols::new(alloc),
+            named: Symbols::new(alloc),
+        }
+    }
+}
+
+/// The one condition of a theorem, behind those that were named before, where it wasn't.
+#[tactic(auto, unfolding(lisp_data::specs::SymbolText::is_symbol_text, lisp_data::specs::Atoms::leaf, lisp_data::specs::Atoms::in_atom, lisp_data::specs::Atoms::is_delimiter, lisp_data::specs::Atoms::is_sign))]
+fn add_goal(alloc: Global, named: Symbols) -> Result<Option<Symbols>, Memory>
+    ensures { IfOk result (λ names. names ≡ further named (Some (codes ":GOAL"))) }
+{
+    let goal = Symbol::named(alloc, ":GOAL")?;
+    add_name(named, &goal)
+}
+
+fn named_in_function(named: Symbols, key: &str, value: &Form) -> Result<Option<Symbols>, Memory>
+    requires { IsProper value.now }
+    ensures { IfOk result (λ names. names ≡ spec.in_function named key.now (form_of value.now)) }
+{
+    if key == ":PROOF" {
+        name_conditions(ClauseKind::Proof, named, value)
+    } else if key == ":HOW" {
+        name_conditions(ClauseKind::Hints, named, value)
+    } else {
+        Ok(Some(named))
+    }
+}
+
+fn named_in_theorem(
+    alloc: Global,
+    named: Symbols,
+    key: &str,
+    value: &Form,
+) -> Result<Option<Symbols>, Memory>
+    requires { IsProper value.now }
+    ensures { IfOk result (λ names. names ≡ spec.in_theorem named key.now (form_of value.now)) }
+{
+    if key == ":PROOF" {
+        add_goal(alloc, named)
+    } else if key == ":HOW" {
+        match items(value) {
+            Some(_) => add_goal(alloc, named),
+            None => Ok(None),
+        }
+    } else {
+        Ok(Some(named))
+    }
+}
 
 /// Where keys stand: in the declarations of a function, in a theorem, or behind the name of a book.
 #[derive(Clone, Copy, Debug, PartialEq, Eq)]
@@ -34,11 +97,12 @@ impl Keyed {
                     ":VERIFY-GUARDS",
                     ":GUARD-HINTS",
                     ":MEASURE",
+                    ":HOW",
                     ":PROOF",
                 ]
                 .as_slice()
             }
-            Keyed::Theorem => [":RULE-CLASSES", ":PROOF"].as_slice(),
+            Keyed::Theorem => [":RULE-CLASSES", ":HOW", ":PROOF"].as_slice(),
             Keyed::Book => [":DIR"].as_slice(),
         };
         is_among(known, key.as_bytes())
@@ -54,33 +118,27 @@ impl Keyed {
         }
     }
 
-    /// Whether a key may have the value.
-    fn takes(self, alloc: Global, key: &str, value: &Form) -> Result<bool, Memory>
+    /// The conditions that a key's value names, behind those that were named before, where the value has its shape and names none again.
+    fn named(
+        self,
+        alloc: Global,
+        named: Symbols,
+        key: &str,
+        value: &Form,
+    ) -> Result<Option<Symbols>, Memory>
         requires { IsProper value.now }
-        ensures { IfOk result (λ b. b ≡ spec.is_value self key.now (form_of value.now)) }
+        ensures { IfOk result (λ names. names ≡ spec.named_by self named key.now (form_of value.now)) }
     {
         match self {
-            Keyed::Function => {
-                if key == ":PROOF" {
-                    are_clauses(alloc, value)
+            Keyed::Function => named_in_function(named, key, value),
+            Keyed::Theorem => named_in_theorem(alloc, named, key, value),
+            Keyed::Book => {
+                if is_word(value, ":SYSTEM") {
+                    Ok(Some(named))
                 } else {
-                    Ok(true)
+                    Ok(None)
                 }
             }
-            Keyed::Theorem => Ok(true),
-            Keyed::Book => Ok(is_word(value, ":SYSTEM")),
-        }
-    }
-
-    /// Whether it is a key that isn't there yet.
-    fn is_unbuilt(self, key: &Form) -> bool
-        requires { IsProper key.now }
-        ensures { result ≡ spec.is_unbuilt self (form_of key.now) }
-    {
-        match self {
-            Keyed::Function => is_word(key, ":HOW"),
-            Keyed::Theorem => is_word(key, ":HOW") || is_word(key, ":ASSUMING"),
-            Keyed::Book => false,
         }
     }
 }
@@ -122,20 +180,21 @@ fn further_key<'a>(
 fn with_key(
     alloc: Global,
     kind: Keyed,
-    mut seen: Symbols,
+    seen: SeenKeys,
     key: &Form,
     value: &Form,
-) -> Result<Symbols, EventError>
+) -> Result<SeenKeys, EventError>
     requires key { IsProper key.now }
     requires value { IsProper value.now }
     ensures { Says (λ keys. keys) (spec.with_key kind seen (form_of key.now) (form_of value.now)) result }
 {
-    let key = further_key(alloc, kind, &seen, key)?;
-    if !kind.takes(alloc, key.text(), value)? {
+    let key = further_key(alloc, kind, &seen.keys, key)?;
+    let SeenKeys { mut keys, named } = seen;
+    let Some(named) = kind.named(alloc, named, key.text(), value)? else {
         return Err(EventError::bad_key(key));
-    }
-    seen.push(key.share()?)?;
-    Ok(seen)
+    };
+    keys.push(key.share()?)?;
+    Ok(SeenKeys { keys, named })
 }
 
 /// The keys that were seen and those of the parts, each with a value. It calls itself once for each key that is known, so only a few times.
@@ -143,16 +202,16 @@ fn with_key(
 pub(crate) fn read_keys(
     alloc: Global,
     kind: Keyed,
-    seen: Symbols,
+    seen: SeenKeys,
     parts: &[Form],
-) -> Result<Symbols, EventError>
+) -> Result<SeenKeys, EventError>
     requires { AllProper parts.now }
     ensures { Says (λ keys. keys) (spec.keys kind seen (map form_of parts.now)) result }
 {
     match parts {
         [] => Ok(seen),
         [key] => {
-            let key = further_key(alloc, kind, &seen, key)?;
+            let key = further_key(alloc, kind, &seen.keys, key)?;
             Err(EventError::bad_key(key))
         }
         [key, value, rest @ ..] => {
@@ -178,20 +237,28 @@ pub(crate) fn value_of<'a>(key: &str, parts: &'a [Form]) -> Option<&'a Form>
     None
 }
 
+/// A key of a theorem that isn't there yet.
+fn is_unbuilt(key: &Form) -> bool
+    requires { IsProper key.now }
+    ensures { result ≡ spec.is_unbuilt (form_of key.now) }
+{
+    is_word(key, ":ASSUMING")
+}
+
 /// Whether a key that isn't there yet stands in a key's place.
-pub(crate) fn has_unbuilt(kind: Keyed, parts: &[Form]) -> bool
+pub(crate) fn has_unbuilt(parts: &[Form]) -> bool
     requires { AllProper parts.now }
-    ensures { result ≡ spec.has_unbuilt kind (map form_of parts.now) }
+    ensures { result ≡ spec.has_unbuilt (map form_of parts.now) }
 {
     let mut rest = parts;
     while let [key, _, behind @ ..] = rest {
-        if kind.is_unbuilt(key) {
+        if is_unbuilt(key) {
             return true;
         }
         rest = behind;
     }
     match rest {
-        [key, ..] => kind.is_unbuilt(key),
+        [key, ..] => is_unbuilt(key),
         [] => false,
     }
 }

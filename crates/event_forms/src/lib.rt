@@ -6,10 +6,8 @@ mod declarations;
 mod errors;
 mod keys;
 mod shapes;
-#[cfg(test)]
-mod tests;
 
-pub use clauses::clause;
+pub use clauses::{ClauseKind, clause, hint_clause};
 pub use errors::EventError;
 pub use keys::Keyed;
-pub use shapes::{Event, FunctionParts, read_event};
+pub use shapes::{Event, FunctionParts, TheoremParts, read_event};

@@ -1,17 +1,20 @@
 //! The shapes of events.
 
-ghost use Rattle.std.specs.Prelude.{◌≡◌, map, IfOk};
+ghost use Rattle.std.specs.Prelude.{◌≡◌, map, option_map, codes, IfOk, IfSome};
 ghost use Rattle.lisp_data.specs.FormView.{form_of, IsProper, AllProper};
+ghost use Rattle.terms.specs.Evaluation.{then_with};
 ghost use Rattle.terms.specs.Worlds.{is_in};
+ghost use Rattle.proof_texts.specs.Items.{items_of};
+ghost use Rattle.event_forms.specs.Keys.{value_of};
 ghost use Rattle.event_forms.specs.Shapes as spec;
 ghost use Rattle.event_forms.specs.Refused.{Says};
-ghost use Rattle.event_forms.specs.view.ShapeView.{seen, HasProperParts};
+ghost use Rattle.event_forms.specs.view.ShapeView.{seen, theorem_seen, IsProperTheorem, HasProperParts};
 
-use crate::clauses::given_clauses;
-use crate::declarations::{body, declared_value, declares_unbuilt};
+use crate::clauses::given_items;
+use crate::declarations::{body, declared_value};
 use crate::errors::EventError;
-use crate::keys::{Keyed, has_unbuilt, read_keys, value_of};
-use lisp_data::{Form, Symbol, Symbols};
+use crate::keys::{Keyed, SeenKeys, has_unbuilt, read_keys, value_of};
+use lisp_data::{Form, Symbol};
 use proof_texts::{is_among, is_word, items, symbol, text};
 use std::alloc::Global;
 
@@ -23,8 +26,21 @@ pub struct FunctionParts<'a> {
     pub body: &'a Form,
     /// The measure, if one is given.
     pub measure: Option<&'a Form>,
-    /// The clauses that prove its conditions, each of another condition.
+    /// The clauses that prove its conditions.
     pub proofs: &'a [Form],
+    /// The clauses that have hints for its conditions. Each condition is named once, in these or in those that prove.
+    pub hows: &'a [Form],
+}
+
+/// The parts of a theorem.
+#[derive(Clone, Copy)]
+pub struct TheoremParts<'a> {
+    pub name: &'a Symbol,
+    pub formula: &'a Form,
+    /// Its proof, if it has one.
+    pub proof: Option<&'a Form>,
+    /// Its hint steps, if it has some.
+    pub how: Option<&'a [Form]>,
 }
 
 /// The parts of an event.
@@ -34,8 +50,7 @@ pub enum Event<'a> {
     /// The name of the book.
     IncludeBook(&'a [u8]),
     Defun(FunctionParts<'a>),
-    /// A theorem: its name, its formula and its proof, if it has one.
-    Defthm(&'a Symbol, &'a Form, Option<&'a Form>),
+    Defthm(TheoremParts<'a>),
     /// The form whose value is printed.
     ValueTriple(&'a Form),
 }
@@ -125,7 +140,7 @@ fn include_book<'a>(alloc: Global, parts: &'a [Form]) -> Result<Event<'a>, Event
     if !is_book(name) {
         return Err(EventError::unknown_book(alloc, name));
     }
-    read_keys(alloc, Keyed::Book, Symbols::new(alloc), rest)?;
+    read_keys(alloc, Keyed::Book, SeenKeys::none(alloc), rest)?;
     Ok(Event::IncludeBook(name))
 }
 
@@ -137,17 +152,6 @@ fn formals<'a>(alloc: Global, form: &'a Form) -> Result<&'a [Form], EventError>
     match items(form) {
         Some(formals) => Ok(formals),
         None => Err(EventError::bad_part(alloc, "formals")),
-    }
-}
-
-/// Whether the parts of a function declare a key that isn't there yet.
-fn is_early_defun(parts: &[Form]) -> bool
-    requires { AllProper parts.now }
-    ensures { result ≡ spec.is_early_defun (map form_of parts.now) }
-{
-    match parts {
-        [_, _, first, rest @ ..] => declares_unbuilt(first, rest),
-        _ => false,
     }
 }
 
@@ -174,7 +178,8 @@ fn defun_after<'a>(
         formals,
         body,
         measure: declared_value(":MEASURE", first, rest),
-        proofs: given_clauses(declared_value(":PROOF", first, rest)),
+        proofs: given_items(declared_value(":PROOF", first, rest)),
+        hows: given_items(declared_value(":HOW", first, rest)),
     }))
 }
 
@@ -184,9 +189,6 @@ fn defun<'a>(alloc: Global, parts: &'a [Form]) -> Result<Event<'a>, EventError>
     ensures event { Says seen (spec.defun (map form_of parts.now)) result }
     ensures proper { IfOk result HasProperParts }
 {
-    if is_early_defun(parts) {
-        return Err(EventError::not_an_event());
-    }
     let [function, rest @ ..] = parts else {
         return Err(EventError::bad_part(alloc, "arguments"));
     };
@@ -200,8 +202,33 @@ fn is_early_defthm(parts: &[Form]) -> bool
     ensures { result ≡ spec.is_early_defthm (map form_of parts.now) }
 {
     match parts {
-        [_, _, rest @ ..] => has_unbuilt(Keyed::Theorem, rest),
+        [_, _, rest @ ..] => has_unbuilt(rest),
         _ => false,
+    }
+}
+
+/// The hint steps that are given among the keys of a theorem.
+fn steps(keys: &[Form]) -> Option<&[Form]>
+    requires { AllProper keys.now }
+    ensures steps { option_map (λ steps. map form_of steps.now) result ≡ then_with (value_of (codes ":HOW") (map form_of keys.now)) items_of }
+    ensures proper { IfSome result (λ steps. AllProper steps.now) }
+{
+    let value = value_of(":HOW", keys)?;
+    items(value)
+}
+
+/// The parts of a theorem, by its name, its formula and its keys.
+fn theorem<'a>(name: &'a Symbol, formula: &'a Form, keys: &'a [Form]) -> TheoremParts<'a>
+    requires formula { IsProper formula.now }
+    requires keys { AllProper keys.now }
+    ensures parts { theorem_seen result ≡ spec.theorem_parts name.now (form_of formula.now) (map form_of keys.now) }
+    ensures proper { IsProperTheorem result }
+{
+    TheoremParts {
+        name,
+        formula,
+        proof: value_of(":PROOF", keys),
+        how: steps(keys),
     }
 }
 
@@ -214,15 +241,15 @@ fn defthm<'a>(alloc: Global, parts: &'a [Form]) -> Result<Event<'a>, EventError>
     if is_early_defthm(parts) {
         return Err(EventError::not_an_event());
     }
-    let [theorem, rest @ ..] = parts else {
+    let [first, rest @ ..] = parts else {
         return Err(EventError::bad_part(alloc, "arguments"));
     };
-    let theorem = name(alloc, theorem)?;
+    let name = name(alloc, first)?;
     let [formula, rest @ ..] = rest else {
         return Err(EventError::bad_part(alloc, "arguments"));
     };
-    read_keys(alloc, Keyed::Theorem, Symbols::new(alloc), rest)?;
-    Ok(Event::Defthm(theorem, formula, value_of(":PROOF", rest)))
+    read_keys(alloc, Keyed::Theorem, SeenKeys::none(alloc), rest)?;
+    Ok(Event::Defthm(theorem(name, formula, rest)))
 }
 
 /// `(value-triple form)`.

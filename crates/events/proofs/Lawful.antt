@@ -1,8 +1,7 @@
 -- Each event is lawful.
-use Rattle.std.proofs.Common.{◌≡◌, ℕ, ◌+◌, true, List, [], ◌∷◌, Option, None, Ok, refl, sym, subst}
+use Rattle.std.proofs.Common.{◌≡◌, ℕ, ◌+◌, true, List, [], ◌∷◌, None, Ok, refl, sym, subst}
 use Rattle.lisp_data.specs.Values.{Name}
-use Rattle.lisp_data.specs.Datum.{Datum}
-use Rattle.terms.specs.Worlds.{World, Each, Holds, arity}
+use Rattle.terms.specs.Worlds.{World, Each, FitsSequent, Holds, arity}
 use Rattle.terms.specs.Sound.{Sound}
 use Rattle.terms.specs.Measures.{obligations}
 use Rattle.terms.specs.Formed.{IsWellFormed}
@@ -14,15 +13,17 @@ use Rattle.worlds.specs.Names.{is_free}
 use Rattle.proof_texts.specs.Parts.{any}
 use Rattle.plans.specs.declared.plan.Plan.{Plan}
 use Rattle.plans.specs.Entries.{AdmitsAll}
-use Rattle.plans.specs.Plans.{no_plan, ConditionsHold, HoldBefore, HoldAfter, IsLawfulPlan}
-use Rattle.event_forms.specs.Shapes.{FunctionParts}
+use Rattle.plans.specs.Plans.{no_plan, ConditionsHold, HoldBefore, HoldAfter}
+use Rattle.event_forms.specs.Shapes.{FunctionParts, TheoremParts}
+use Rattle.terms.proofs.Growth.{obligations_fit}
+use Rattle.terms.proofs.Later.{has_basics}
 use Rattle.worlds.proofs.Free.{free}
 use Rattle.events.specs.Definitions.{new_name, definition_of}
 use Rattle.events.specs.Frames.{Frame}
 use Rattle.events.specs.Defun.{defun, decreases, measure_conditions, function_plan}
-use Rattle.events.specs.Defthm.{defthm, theorem_plan}
+use Rattle.events.specs.Defthm.{defthm, claim, theorem_plan}
 use Rattle.events.specs.Verdicts.{name_after, new_names}
-use Rattle.events.specs.Laws.{IsLawful}
+use Rattle.events.specs.Laws.{ConditionsFit, IsSuited, IsLawful}
 use Rattle.events.proofs.Inversions.{then_ok, map_ok, coded_ok}
 use Rattle.events.proofs.WellFormed.{CanOwe, can_owe, takeable, formula_fits, name_is_free}
 
@@ -35,24 +36,38 @@ each_decrease : (P : Sequent → Type 0) (k : ℕ) (ss : List Sequent) → Each 
 each_decrease P k [] h = tt
 each_decrease P k (s ∷ ss) h = (h.0, each_decrease P (k + 1) ss h.1)
 
+named_decreases : (P : Sequent → Type 0) (k : ℕ) (ss : List Sequent) → Each P ss → Each (λ c. P c.sequent) (decreases k ss)
+named_decreases P k [] h = tt
+named_decreases P k (s ∷ ss) h = (h.0, named_decreases P (k + 1) ss h.1)
+
+named_owed : (P : Sequent → Type 0) (ss : List Sequent) → Each P ss → Each (λ c. P c.sequent) (measure_conditions ss)
+named_owed P [] h = tt
+named_owed P (s ∷ ss) h = (h.0, named_decreases P 1 ss h.1)
+
+-- what a well-formed definition owes is well formed
+owed_fit : (W : World) → Sound W → (d : Definition) → is_free W d.name ≡ true → IsWellFormed W.functions d → Each (FitsSequent W.functions) (obligations d)
+owed_fit W sound d new ok =
+    obligations_fit W.functions sound.formed (has_basics W sound) d
+    (record { fresh = (free W d.name new).no_function; formals = ok.formals; body = ok.body; measure = ok.measure; measured = ok.measured; flat = ok.flat })
+
 each_owed : (P : Sequent → Type 0) (ss : List Sequent) → Each (λ c. P c.sequent) (measure_conditions ss) → Each P ss
 each_owed P [] h = tt
 each_owed P (s ∷ ss) h = (h.0, each_decrease P 1 ss h.1)
 
 -- a plan without claims is lawful where the world can take its entries once its conditions hold
-direct : (W : World) (p : Plan) → HoldBefore W p → HoldAfter W p → (ConditionsHold W p → AdmitsAll W p.entries) → IsLawfulPlan W p
-direct W p b a f = record { before = λ _. b; after = λ _. a; takes = λ h _ _. f h }
+direct : (W : World) (p : Plan) → HoldBefore W p → HoldAfter W p → ConditionsFit W p.conditions → (ConditionsHold W p → AdmitsAll W p.entries) → IsSuited W p
+direct W p b a fits f = record { lawful = record { before = λ _. b; after = λ _. a; takes = λ h _ _. f h }; fits = fits }
 
 -- an event that makes nothing
 pub lawful_nothing : (e : Frame) → ((W : World) → e.plan W ≡ Ok no_plan) → IsLawful e
 lawful_nothing e nothing W sound names p is =
     let same : no_plan ≡ p = cc (nothing W) in
-    subst (IsLawfulPlan W) same (direct W no_plan tt tt (λ _. tt))
+    subst (IsSuited W) same (direct W no_plan tt tt tt (λ _. tt))
 
 -- a definition that is well formed, also where it is recursive
-lawful_definition : (W : World) (d : Definition) → is_free W d.name ≡ true → IsWellFormed W.functions d → IsLawfulPlan W (function_plan d)
-lawful_definition W d free ok =
-    direct W (function_plan d) tt tt (λ hold. (record { free = free; well_formed = ok; owed = each_owed (Holds W.functions) (obligations d) hold }, tt))
+lawful_definition : (W : World) (d : Definition) → is_free W d.name ≡ true → IsWellFormed W.functions d → Each (FitsSequent W.functions) (obligations d) → IsSuited W (function_plan d)
+lawful_definition W d free ok fits =
+    direct W (function_plan d) tt tt (named_owed (FitsSequent W.functions) (obligations d) fits) (λ hold. (record { free = free; well_formed = ok; owed = each_owed (Holds W.functions) (obligations d) hold }, tt))
 
 module _ (fit : TranslatedTermsFit) where
   pub lawful_defun : (f : FunctionParts) → IsLawful (defun f)
@@ -60,7 +75,8 @@ module _ (fit : TranslatedTermsFit) where
       let free = one_name W f.name names in
       let m = map_ok (definition_of W f) function_plan p (coded_ok (map_outcome function_plan (definition_of W f)) p e) in
       let t = takeable fit W sound f free m.0 m.1 in
-      subst (IsLawfulPlan W) m.2 (lawful_definition W m.0 (subst (λ n. is_free W n ≡ true) (sym t.named) free) t.well_formed)
+      let new = subst (λ n. is_free W n ≡ true) (sym t.named) free in
+      subst (IsSuited W) m.2 (lawful_definition W m.0 new t.well_formed (owed_fit W sound m.0 new t.well_formed))
 
   -- the obligations of a function with a new name can be told
   pub owes : (W : World) → Sound W → (f : FunctionParts) → new_names W [] (f.name ∷ []) ≡ Ok (tt {0}) → (d : Definition) → definition_of W f ≡ Ok d → CanOwe d
@@ -69,18 +85,12 @@ module _ (fit : TranslatedTermsFit) where
       let t = takeable fit W sound f is d e in
       can_owe W.functions d (subst (λ n. arity W.functions n ≡ None) (sym t.named) (free W f.name is).no_function) t.well_formed
 
-  pub lawful_defthm : (n : Name) (formula : Datum) (proof : Option Datum) → IsLawful (defthm n formula proof)
-  lawful_defthm n formula proof W sound names p e =
-      let o = translate (arity W.functions) any formula in
-      let m = map_ok o (theorem_plan n) p (coded_ok (map_outcome (theorem_plan n) o) p e) in
-      subst (IsLawfulPlan W) m.2 (direct W (theorem_plan n m.0) tt tt (λ hold. (
-        (
-          one_name W n names,
-          record {
-            no_hyps = refl;
-            fits = record { universals = tt; hyps = tt; goal = formula_fits fit W sound formula m.0 m.1 };
-            holds = hold.0;
-          },
-        ),
+  pub lawful_defthm : (t : TheoremParts) → IsLawful (defthm t)
+  lawful_defthm t W sound names p e =
+      let o = translate (arity W.functions) any t.formula in
+      let m = map_ok o (theorem_plan t.name) p (coded_ok (map_outcome (theorem_plan t.name) o) p e) in
+      let fits : FitsSequent W.functions (claim m.0) = record { universals = tt; hyps = tt; goal = formula_fits fit W sound t.formula m.0 m.1 } in
+      subst (IsSuited W) m.2 (direct W (theorem_plan t.name m.0) tt tt (fits, tt) (λ hold. (
+        (one_name W t.name names, record { no_hyps = refl; fits = fits; holds = hold.0 }),
         tt,
       )))

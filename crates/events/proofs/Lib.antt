@@ -9,5 +9,6 @@ pub mod HandleLemmas
 pub mod StepLemmas
 pub mod ClauseLemmas
 pub mod ProvingLemmas
+pub mod LineLemmas
 pub mod OwedLemmas
 pub mod ConditionNames

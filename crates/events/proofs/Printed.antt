@@ -50,7 +50,7 @@ module _ (law : CountedLaw) (W : World) where
   true_by_shape form v (Ok InPackage) h = absurd (silent W form (frame_of InPackage) refl v h)
   true_by_shape form v (Ok (IncludeBook book)) h = absurd (silent W form (frame_of (IncludeBook book)) refl v h)
   true_by_shape form v (Ok (Defun function)) h = absurd (silent W form (frame_of (Defun function)) refl v h)
-  true_by_shape form v (Ok (Defthm n formula proof)) h = absurd (silent W form (frame_of (Defthm n formula proof)) refl v h)
+  true_by_shape form v (Ok (Defthm theorem)) h = absurd (silent W form (frame_of (Defthm theorem)) refl v h)
   true_by_shape form v (Ok (ValueTriple part)) h = (part, refl, model_value part v h)
 
 pub printed_is_true : CountedLaw → PrintedIsTrue

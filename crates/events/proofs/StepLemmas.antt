@@ -11,12 +11,12 @@ use Rattle.term_forms.specs.declared.translation.TermError.{TermError}
 use Rattle.term_forms.specs.declared.translation.TermError.TheVariants as term
 use Rattle.event_forms.specs.Shapes.{Event, event_of}
 use Rattle.events.specs.view.Halts.{IsRefusal, IsFromTerm, Reads, Answers}
-use Rattle.events.specs.Lines.{text_of, refused_line}
+use Rattle.events.specs.Lines.{text_of, refused_lines}
 use Rattle.events.specs.Refusals.{refusal_code}
 use Rattle.events.specs.Steps.{IsStep}
 use Rattle.events.specs.Verdicts as verdict
 use Rattle.events.specs.declared.refusal.Refusal.{Refusal}
-use Rattle.events.specs.declared.refusal.Refusal.TheVariants.{Coded, ProofWrong, AtNode}
+use Rattle.events.specs.declared.refusal.Refusal.TheVariants.{Coded, ProofWrong, AtNode, NotProved}
 use Rattle.events.specs.declared.halt.Halt.{Halt}
 use Rattle.events.specs.declared.halt.Halt.TheVariants.{Refused}
 use Rattle.events.specs.declared.steps.StepAnswer.{StepAnswer}
@@ -77,6 +77,7 @@ module _ (W : World) (form : Datum) (place index : ℕ) where
       by_shape_of (Err e) is (Coded code detail) h = ap (verdict.by_shape W form) (is ∙ h)
       by_shape_of (Err e) is (ProofWrong condition node rule) h = absurd h
       by_shape_of (Err e) is (AtNode code condition node) h = absurd h
+      by_shape_of (Err e) is (NotProved condition leaf) h = absurd h
 
-  pub refused_step : (why : Refusal) (code : ℕ) (lines : List (List ℕ)) → Answers W form (event_of form) (Err (Refused why)) → code ≡ number (refusal_code why) → lines ≡ refused_line index why place ∷ [] → IsStep W form place index (answer.Refused code lines)
+  pub refused_step : (why : Refusal) (code : ℕ) (lines : List (List ℕ)) → Answers W form (event_of form) (Err (Refused why)) → code ≡ number (refusal_code why) → lines ≡ refused_lines index why place → IsStep W form place index (answer.Refused code lines)
   refused_step why code lines h code_is lines_are = record { why = why; verdict_is = refused why h; code_is = code_is; lines_are = lines_are }

@@ -1,5 +1,5 @@
 -- `defthm`: a theorem, whose one condition is its claim.
-use Rattle.std.specs.Prelude.{[], ◌∷◌, ◌++◌, codes, Option, Some, None}
+use Rattle.std.specs.Prelude.{List, [], ◌∷◌, ◌++◌, codes, Option, Some, None}
 use Rattle.lisp_data.specs.Values.{Name}
 use Rattle.lisp_data.specs.Datum.{Datum}
 use Rattle.terms.specs.Terms.{Tm}
@@ -10,7 +10,8 @@ use Rattle.proof_texts.specs.Parts.{any}
 use Rattle.plans.specs.declared.plan.Condition.{Condition}
 use Rattle.plans.specs.declared.plan.Plan.{Plan}
 use Rattle.plans.specs.declared.plan.Entry.TheVariants.{Theorem}
-use Rattle.events.specs.Frames.{Frame, AsTheorem, Clauses, no_clauses, coded}
+use Rattle.event_forms.specs.Shapes.{TheoremParts}
+use Rattle.events.specs.Frames.{Frame, AsTheorem, Clauses, coded}
 
 -- what a theorem claims: its formula, without universals and hypotheses
 abbrev pub claim : Tm → Sequent
@@ -27,17 +28,20 @@ theorem_plan n t = record {
   after = [];
 }
 
--- the proof of the one condition, where it is given
-abbrev pub goal_clauses : Option Datum → Clauses
-goal_clauses None = no_clauses
-goal_clauses (Some text) = record { proofs = (codes ":GOAL", text) ∷ [] }
+-- what serves the one condition, where it is given
+abbrev pub of_goal : {A : Type 0} → Option A → List (Name × A)
+of_goal None = []
+of_goal (Some x) = (codes ":GOAL", x) ∷ []
 
-abbrev pub defthm : Name → Datum → Option Datum → Frame
-defthm n formula proof = record {
-  title = codes "defthm " ++ n;
+abbrev pub goal_clauses : Option Datum → Option (List Datum) → Clauses
+goal_clauses proof how = record { proofs = of_goal proof; hows = of_goal how }
+
+abbrev pub defthm : TheoremParts → Frame
+defthm t = record {
+  title = codes "defthm " ++ t.name;
   prints = None;
-  names = n ∷ [];
-  repeats = AsTheorem n formula;
-  clauses = goal_clauses proof;
-  plan = λ W. coded (map_outcome (theorem_plan n) (translate (arity W.functions) any formula));
+  names = t.name ∷ [];
+  repeats = AsTheorem t.name t.formula;
+  clauses = goal_clauses t.proof t.how;
+  plan = λ W. coded (map_outcome (theorem_plan t.name) (translate (arity W.functions) any t.formula));
 }

@@ -39,6 +39,6 @@ defun p = record {
   prints = None;
   names = p.name ∷ [];
   repeats = AsForm;
-  clauses = record { proofs = p.proofs };
+  clauses = record { proofs = p.proofs; hows = p.hows };
   plan = λ W. coded (map_outcome function_plan (definition_of W p));
 }

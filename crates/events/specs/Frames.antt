@@ -28,12 +28,13 @@ pub data Repeats : Type 0 where
   AsForm : Repeats
   AsTheorem : (name : Name) (formula : Datum) → Repeats
 
--- the texts of proofs, each under the name of its condition
+-- the texts of proofs and the steps of hints, each under the name of its condition
 pub record Clauses : Type 0 where
   pub proofs : List (Name × Datum)
+  pub hows : List (Name × List Datum)
 
 abbrev pub no_clauses : Clauses
-no_clauses = record { proofs = [] }
+no_clauses = record { proofs = []; hows = [] }
 
 -- An event: its word and name as lines have them, its new names in order, when it repeats an earlier one, and how its conditions are proved. The
 -- plan is what the event makes and what has to be proved for it, or the first refusal of its own checks; it is asked for where the new names

@@ -11,5 +11,5 @@ abbrev pub frame_of : Event → Frame
 frame_of InPackage = in_package
 frame_of (IncludeBook book) = include_book book
 frame_of (Defun function) = defun function
-frame_of (Defthm n formula proof) = defthm n formula proof
+frame_of (Defthm theorem) = defthm theorem
 frame_of (ValueTriple form) = value_triple form

@@ -2,9 +2,10 @@
 use Rattle.std.specs.Prelude.{◌≡◌, ℕ, ◌+◌, List, [], length, Ok}
 use Rattle.lisp_data.specs.Values.{Val}
 use Rattle.lisp_data.specs.Datum.{Datum}
-use Rattle.terms.specs.Worlds.{World}
+use Rattle.terms.specs.Worlds.{World, Each, FitsSequent}
 use Rattle.terms.specs.Sound.{Sound}
 use Rattle.event_forms.specs.Shapes.{ValueTriple, event_of}
+use Rattle.plans.specs.declared.plan.Condition.{Condition}
 use Rattle.plans.specs.declared.plan.Plan.{Plan}
 use Rattle.plans.specs.Plans.{IsLawfulPlan}
 use Rattle.events.specs.declared.handle.EventProofs.{EventProofs}
@@ -13,9 +14,18 @@ use Rattle.events.specs.Verdicts.{Verdict, Accepted, Redundant, Printed, Refused
 use Rattle.events.specs.ModelValues.{IsModelValue}
 use Rattle.events.specs.Steps.{IsAccepted}
 
--- each plan that the event has in a sound world where its names are new is lawful
+-- each condition of a plan is well formed in the world
+abbrev pub ConditionsFit : World → List Condition → Type 0
+ConditionsFit W cs = Each (λ c. FitsSequent W.functions c.sequent) cs
+
+-- a lawful plan with well-formed conditions
+pub record IsSuited (W : World) (p : Plan) : Type 0 where
+  pub lawful : IsLawfulPlan W p
+  pub fits : ConditionsFit W p.conditions
+
+-- each plan that the event has in a sound world where its names are new is lawful, with well-formed conditions
 abbrev pub IsLawful : Frame → Type 0
-IsLawful e = (W : World) → Sound W → new_names W [] e.names ≡ Ok tt → (p : Plan) → e.plan W ≡ Ok p → IsLawfulPlan W p
+IsLawful e = (W : World) → Sound W → new_names W [] e.names ≡ Ok tt → (p : Plan) → e.plan W ≡ Ok p → IsSuited W p
 
 -- a lawful event that is accepted in a sound world makes a sound world
 abbrev pub AcceptedIsSound : Type 0

@@ -1,12 +1,16 @@
 -- The lines of events.
-use Rattle.std.specs.Prelude.{ℕ, List, [], ◌++◌, Ok, Err, codes}
+use Rattle.std.specs.Prelude.{ℕ, List, [], ◌∷◌, ◌++◌, map, Ok, Err, codes}
 use Rattle.std.specs.Fmt.{decimal}
 use Rattle.lisp_data.specs.Values.{Val}
 use Rattle.lisp_data.specs.Datum.{Datum}
 use Rattle.lisp_reader.specs.Printed.{value_text}
+use Rattle.terms.specs.Terms.{Tm}
+use Rattle.terms.specs.declared.sequent.Sequent.{Sequent}
+use Rattle.term_forms.specs.Printing.{term_text}
 use Rattle.term_forms.specs.Translation.{Outcome}
 use Rattle.event_forms.specs.Shapes.{Event, event_of}
 use Rattle.events.specs.declared.refusal.Refusal.{Refusal}
+use Rattle.events.specs.declared.refusal.Refusal.TheVariants.{NotProved}
 use Rattle.events.specs.Frames.{Frame}
 use Rattle.events.specs.Kinds.{frame_of}
 use Rattle.events.specs.Refusals.{refusal_text}
@@ -32,3 +36,22 @@ value_line v = codes "value " ++ (value_text v ++ codes "\n")
 -- events are counted from 1, and places from 0
 abbrev pub refused_line : ℕ → Refusal → ℕ → List ℕ
 refused_line index why place = codes "refused " ++ (decimal index ++ (codes " " ++ (refusal_text why ++ (codes " at " ++ (decimal place ++ codes "\n")))))
+
+-- the lines of the sequent at which the reduction of a condition is stuck: its hypotheses in order, and its goal
+abbrev pub hypothesis_line : Tm → List ℕ
+hypothesis_line t = codes "hypothesis " ++ (term_text t ++ codes "\n")
+
+abbrev pub goal_line : Tm → List ℕ
+goal_line t = codes "goal " ++ (term_text t ++ codes "\n")
+
+abbrev pub leaf_lines : Sequent → List (List ℕ)
+leaf_lines leaf = map hypothesis_line leaf.hyps ++ goal_line leaf.goal ∷ []
+
+-- what stands behind the line of a refusal
+abbrev pub further_lines : Refusal → List (List ℕ)
+further_lines (NotProved condition leaf) = leaf_lines leaf
+further_lines _ = []
+
+-- the lines of a refused event
+abbrev pub refused_lines : ℕ → Refusal → ℕ → List (List ℕ)
+refused_lines index why place = refused_line index why place ∷ further_lines why

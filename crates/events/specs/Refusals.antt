@@ -10,7 +10,7 @@ use Rattle.proof_objects.specs.RuleNames as rule
 use Rattle.kernel.specs.declared.errors.RuleName.{RuleName}
 use Rattle.kernel.specs.declared.errors.RuleName.TheVariants.{Rule, Claim}
 use Rattle.events.specs.declared.refusal.Refusal.{Refusal}
-use Rattle.events.specs.declared.refusal.Refusal.TheVariants.{Coded, ProofWrong, AtNode}
+use Rattle.events.specs.declared.refusal.Refusal.TheVariants.{Coded, ProofWrong, AtNode, NotProved}
 
 -- the word of a node's rule, or of the claim that the proof doesn't prove
 abbrev pub rule_word : RuleName → List ℕ
@@ -33,12 +33,14 @@ abbrev pub named_text : Refusal → List ℕ
 named_text (Coded code detail) = detail_after detail
 named_text (ProofWrong condition node rule) = node_text condition node ++ (codes " " ++ rule_word rule)
 named_text (AtNode code condition node) = node_text condition node
+named_text (NotProved condition leaf) = codes " " ++ condition
 
 -- each refusal has a code of the table
 abbrev pub refusal_code : Refusal → Code
 refusal_code (Coded code detail) = code
 refusal_code (ProofWrong condition node rule) = code.ProofWrong
 refusal_code (AtNode code condition node) = code
+refusal_code (NotProved condition leaf) = code.NotProved
 
 -- code and word
 abbrev pub coded_text : Code → List ℕ

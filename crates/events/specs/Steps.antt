@@ -14,7 +14,7 @@ use Rattle.events.specs.declared.steps.StepAnswer.TheVariants as answer
 use Rattle.events.specs.Kinds.{frame_of}
 use Rattle.events.specs.Verdicts.{Accepted, Redundant, Printed, Refused, checked, verdict}
 use Rattle.events.specs.Refusals.{refusal_code}
-use Rattle.events.specs.Lines.{ok_line, redundant_line, value_line, refused_line}
+use Rattle.events.specs.Lines.{ok_line, redundant_line, value_line, refused_lines}
 
 -- An accepted event makes this world and has this line. Each condition of its plan, and each of the plan's claims, is proved: in order, those
 -- of the world before it, and those of the world with its functions.
@@ -38,12 +38,12 @@ pub record IsPrinted (W : World) (form : Datum) (lines : List (List ℕ)) : Type
   pub verdict_is : verdict W form ≡ Printed value
   pub lines_are : lines ≡ value_line value ∷ []
 
--- a refused event has this code and this line
+-- a refused event has this code and these lines
 pub record IsRefused (W : World) (form : Datum) (place index code : ℕ) (lines : List (List ℕ)) : Type 0 where
   pub why : Refusal
   pub verdict_is : verdict W form ≡ Refused why
   pub code_is : code ≡ number (refusal_code why)
-  pub lines_are : lines ≡ refused_line index why place ∷ []
+  pub lines_are : lines ≡ refused_lines index why place
 
 -- the answer is the verdict's
 abbrev pub IsStep : World → Datum → ℕ → ℕ → StepAnswer → Type 0

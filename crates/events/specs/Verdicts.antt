@@ -5,6 +5,7 @@ use Rattle.lisp_data.specs.Datum.{Datum}
 use Rattle.lisp_data.specs.declared.detail.Detail.TheVariants as detail
 use Rattle.lisp_data.specs.declared.code.Code.{Code}
 use Rattle.lisp_data.specs.declared.code.Code.TheVariants as code
+use Rattle.terms.specs.Terms.{Tm}
 use Rattle.terms.specs.Worlds.{World, is_in}
 use Rattle.terms.specs.Sound.{add_event}
 use Rattle.term_forms.specs.Translation.{Outcome, and_then, map_outcome}
@@ -16,14 +17,18 @@ use Rattle.kernel.specs.declared.errors.RuleName.TheVariants.{Rule as OfRule, Cl
 use Rattle.event_forms.specs.Shapes.{Event, event_of}
 use Rattle.event_forms.specs.Refused.{not_an_event}
 use Rattle.proof_texts.specs.ProofTexts.{proof_of}
+use Rattle.reduction.specs.declared.run.Outcome.{Outcome as Reduced}
+use Rattle.reduction.specs.declared.run.Outcome.TheVariants.{Closed, Stuck, TooLong}
+use Rattle.hints.specs.Steps.{hints_from}
+use Rattle.hint_prover.specs.Answers.{reduction_of, leaf_of}
 use Rattle.plans.specs.declared.plan.Condition.{Condition}
 use Rattle.plans.specs.declared.plan.Plan.{Plan}
 use Rattle.plans.specs.Entries.{add_entries}
 use Rattle.plans.specs.Proving.{proves}
 use Rattle.events.specs.declared.clauses.Way.{Way}
-use Rattle.events.specs.declared.clauses.Way.TheVariants.{ByProof, Unproved}
+use Rattle.events.specs.declared.clauses.Way.TheVariants.{ByProof, ByHints}
 use Rattle.events.specs.declared.refusal.Refusal.{Refusal}
-use Rattle.events.specs.declared.refusal.Refusal.TheVariants.{Coded, ProofWrong, AtNode}
+use Rattle.events.specs.declared.refusal.Refusal.TheVariants.{Coded, ProofWrong, AtNode, NotProved}
 use Rattle.events.specs.Definitions.{new_name}
 use Rattle.events.specs.Frames.{Judged, coded, goes_on, Clauses, Frame}
 use Rattle.events.specs.Kinds.{frame_of}
@@ -53,26 +58,46 @@ abbrev pub are_conditions : List Condition → List (Name × Datum) → Bool
 are_conditions cs [] = true
 are_conditions cs (p ∷ ps) = is_condition cs p.0 && are_conditions cs ps
 
+-- hints can be for all conditions
+abbrev pub is_served : List Condition → Name → Bool
+is_served cs n = bytes_eq n (codes ":ALL") || is_condition cs n
+
+abbrev pub are_served : List Condition → List (Name × List Datum) → Bool
+are_served cs [] = true
+are_served cs (h ∷ hs) = is_served cs h.0 && are_served cs hs
+
 -- each clause is of a condition
 abbrev pub of_conditions : List Condition → Clauses → Outcome (Unit {0})
-of_conditions cs clauses = if are_conditions cs clauses.proofs then Ok tt else Err (code.ShapeMismatch, detail.Word (codes "conditions"))
+of_conditions cs clauses =
+    if are_conditions cs clauses.proofs && are_served cs clauses.hows then Ok tt else Err (code.ShapeMismatch, detail.Word (codes "conditions"))
 
--- the text under a condition's name
-abbrev pub clause_of : List (Name × Datum) → Name → Option Datum
+-- what stands under a condition's name
+abbrev pub clause_of : {A : Type 0} → List (Name × A) → Name → Option A
 clause_of [] n = None
 clause_of (p ∷ ps) n = if bytes_eq n p.0 then Some p.1 else clause_of ps n
 
--- How a condition is proved: by the proof of a text, where it has one. It is opened only where it is needed, since the reading of a proof would
--- stand in each goal.
-unfoldable pub way_by : World → Option Datum → Outcome Way
-way_by W None = Ok Unproved
-way_by W (Some text) = map_outcome ByProof (proof_of W text)
+-- the steps of a condition's hints: those of its own clause, else those for all conditions, else none
+abbrev pub own_steps : Option (List Datum) → List Datum → List Datum
+own_steps (Some steps) others = steps
+own_steps None others = others
+
+abbrev pub steps_for : List (Name × List Datum) → Name → List Datum
+steps_for hows n = own_steps (clause_of hows n) (own_steps (clause_of hows (codes ":ALL")) [])
+
+-- How a condition with these universals is proved: by the proof of a text, where it has one, else by its hints. It is opened only where it is
+-- needed, since the reading of a proof would stand in each goal.
+unfoldable pub way_by : World → List Tm → Option Datum → List Datum → Outcome Way
+way_by W us (Some text) steps = map_outcome ByProof (proof_of W text)
+way_by W us None steps = map_outcome ByHints (hints_from W us steps)
+
+abbrev pub way_of : World → Clauses → Condition → Outcome Way
+way_of W clauses c = way_by W c.sequent.universals (clause_of clauses.proofs c.name) (steps_for clauses.hows c.name)
 
 -- the ways of conditions, in order
 abbrev pub ways : World → Clauses → List Condition → Outcome (List Way)
 ways W clauses [] = Ok []
 ways W clauses (c ∷ cs) =
-    and_then (way_by W (clause_of clauses.proofs c.name)) (λ w. map_outcome (λ ws. w ∷ ws) (ways W clauses cs))
+    and_then (way_of W clauses c) (λ w. map_outcome (λ ws. w ∷ ws) (ways W clauses cs))
 
 -- why a condition's proof is refused at a node: the proof is wrong, or the node's rule computes and met a limit
 abbrev pub refused_at : Name → ℕ → Rule → Code → Refusal
@@ -89,9 +114,14 @@ abbrev pub by_conclusion : World → Condition → ProofTree → Option Sequent 
 by_conclusion W c p None = Err (bad_node c.name (first_bad W 0 p))
 by_conclusion W c p (Some s) = if proves s c.sequent then Ok tt else Err (ProofWrong c.name (steps p) Claim)
 
--- a condition without a proof is unsupported so far
+-- the reduction of a condition has to close
+abbrev pub by_reduction : Condition → Reduced → Judged (Unit {0})
+by_reduction c (Closed made) = Ok tt
+by_reduction c (Stuck leaf) = Err (NotProved c.name (leaf_of c.sequent leaf))
+by_reduction c TooLong = Err (Coded code.StepLimit (detail.Name c.name))
+
 abbrev pub by_way : World → Condition → Way → Judged (Unit {0})
-by_way W c Unproved = coded not_an_event
+by_way W c (ByHints h) = by_reduction c (reduction_of W c.sequent h)
 by_way W c (ByProof p) = by_conclusion W c p (concludes W p)
 
 -- the conditions in order, each in its way; one without a way never comes

@@ -3,6 +3,7 @@
 use crate::refusal::Refusal;
 use evaluator::EvalError;
 use event_forms::EventError;
+use hints::HintError;
 use lisp_data::{Code, Detail, Symbol};
 use lists::{Memory, Text};
 use proof_texts::ProofError;
@@ -112,6 +113,19 @@ impl From<ProofError> for Halt {
                 Halt::Refused(Refusal::Coded { code, detail })
             }
             ProofError::Memory => Halt::Memory,
+        }
+    }
+}
+
+impl From<HintError> for Halt {
+    ghost use Rattle.events.specs.view.Halts.{IsFromHint};
+
+    ghost from_gives = { λ t e. IsFromHint t e };
+
+    fn from(error: HintError) -> Halt {
+        match error {
+            HintError::Refused { code, detail } => Halt::Refused(Refusal::Coded { code, detail }),
+            HintError::Memory => Halt::Memory,
         }
     }
 }

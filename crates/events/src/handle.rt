@@ -3,7 +3,8 @@
 ghost use Rattle.std.specs.Prelude.{◌≡◌, codes, IfOk, None};
 ghost use Rattle.lisp_data.specs.FormView.{form_of, IsProper};
 ghost use Rattle.terms.specs.Sound.{add_event};
-ghost use Rattle.plans.specs.Plans.{IsLawfulPlan, IsDirect};
+ghost use Rattle.plans.specs.Plans.{IsDirect};
+ghost use Rattle.events.specs.Laws.{IsSuited};
 ghost use Rattle.events.specs.Verdicts.{proved, checked};
 ghost use Rattle.events.specs.view.Halts.{Judges, Handles, clauses_seen, AreProper};
 
@@ -18,6 +19,7 @@ use crate::steps::StepAnswer;
 use kernel::Proved;
 use lisp_data::{Form, Memory, Seq, Symbols};
 use plans::{Plan, install};
+use reduction_proofs::{hints_fit, reductions_prove};
 use std::alloc::Global;
 use worlds::World;
 
@@ -71,12 +73,14 @@ impl Made {
 
 /// Proves the conditions of a plan, and makes what it plans.
 fn carry_out(alloc: Global, world: &World, plan: &Plan, clauses: &Clauses<'_>) -> Result<Made, Halt>
-    requires lawful { IsLawfulPlan world.now plan.now }
+    requires suited { IsSuited world.now plan.now }
     requires direct { IsDirect plan.now }
     requires proper { AreProper clauses.now }
     ensures { Judges world.now (proved world.now (clauses_seen clauses.now) plan.now) result }
 {
     world.soundness();
+    hints_fit();
+    reductions_prove();
     let conditions = plan.conditions.as_slice();
     check_clauses(alloc, conditions, clauses)?;
     let ways = read_ways(alloc, world, clauses, conditions, Ways::new(alloc))?;

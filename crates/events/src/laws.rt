@@ -8,6 +8,8 @@ pub fn accepted_is_sound()
 {
     plans::entries_keep_sound();
     plans::proved_conditions_hold();
+    reduction_proofs::hints_fit();
+    reduction_proofs::reductions_prove();
 }
 
 /// An accepted event has one proof for each of its conditions and claims.

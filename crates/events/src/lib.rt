@@ -16,8 +16,6 @@ mod proving;
 mod redundancy;
 mod refusal;
 mod steps;
-#[cfg(test)]
-mod tests;
 
 pub use handle::{EventProofs, ProvedList};
 pub use laws::{accepted_is_sound, printed_is_true, proof_for_each, value_triples_print};

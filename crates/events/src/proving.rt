@@ -1,12 +1,17 @@
 //! The conditions of an event, proved one after the other.
 
-ghost use Rattle.events.specs.declared.clauses.Way.TheVariants.{ByProof};
-ghost use Rattle.events.specs.view.Halts.{IsWrong, IsStopped, ProvesOne, ProvesAfter};
+ghost use Rattle.events.specs.declared.clauses.Way.TheVariants.{ByProof, ByHints};
+ghost use Rattle.terms.specs.Worlds.{FitsSequent};
+ghost use Rattle.reduction_proofs.specs.Proving.{FitsHints};
+ghost use Rattle.events.specs.Laws.{ConditionsFit};
+ghost use Rattle.events.specs.view.Halts.{IsWrong, IsStuck, IsStopped, FitsWay, FitWays, ProvesOne, ProvesAfter};
 
 use crate::clauses::Way;
 use crate::halt::Halt;
 use crate::handle::ProvedList;
 use crate::refusal::Refusal;
+use hint_prover::{ProveError, Reduction, prove};
+use hints::Hints;
 use kernel::{CheckError, Proved, RuleName, check};
 use lisp_data::Code;
 use plans::{Condition, proves};
@@ -23,6 +28,19 @@ fn wrong(condition: &Condition, node: u32, rule: RuleName) -> Halt
             condition,
             node,
             rule,
+        }),
+        Err(_) => Halt::Memory,
+    }
+}
+
+/// A condition isn't proved by its hints.
+fn stuck(condition: &Condition, reduction: Reduction) -> Halt
+    ensures { IsStuck condition.now.name reduction result }
+{
+    match condition.name.share() {
+        Ok(condition) => Halt::Refused(Refusal::NotProved {
+            condition,
+            reduction,
         }),
         Err(_) => Halt::Memory,
     }
@@ -67,13 +85,37 @@ fn prove_by(
     }
 }
 
+/// Proves a condition in the world by hints.
+#[tactic(auto, using(crate::proofs::ProvingLemmas::reductions))]
+fn prove_by_hints(
+    alloc: Global,
+    world: &World,
+    condition: &Condition,
+    hints: &Hints,
+) -> Result<Proved, Halt>
+    requires fits { FitsSequent world.now.functions condition.now.sequent }
+    requires hints { FitsHints world.now condition.now.sequent.universals hints.now }
+    ensures { ProvesOne world.now condition.now (ByHints hints.now) result }
+{
+    match prove(alloc, world, &condition.sequent, hints) {
+        Ok(proved) => Ok(proved),
+        Err(error) => match error {
+            ProveError::NotProved(reduction) => Err(stuck(condition, reduction)),
+            ProveError::StepLimit => Err(Halt::named(Code::StepLimit, &condition.name)),
+            ProveError::Memory => Err(Halt::Memory),
+        },
+    }
+}
+
 /// Proves a condition in the world, in its way.
 fn prove_one(alloc: Global, world: &World, condition: &Condition, way: &Way) -> Result<Proved, Halt>
+    requires fits { FitsSequent world.now.functions condition.now.sequent }
+    requires way { FitsWay world.now condition.now.sequent.universals way.now }
     ensures { ProvesOne world.now condition.now way.now result }
 {
     match way {
         Way::ByProof(proof) => prove_by(alloc, world, condition, proof),
-        Way::Unproved => Err(Halt::not_an_event()),
+        Way::ByHints(hints) => prove_by_hints(alloc, world, condition, hints),
     }
 }
 
@@ -86,6 +128,8 @@ pub(crate) fn prove_all(
     ways: &[Way],
     mut before: ProvedList,
 ) -> Result<ProvedList, Halt>
+    requires fits { ConditionsFit world.now conditions.now }
+    requires ways { FitWays world.now conditions.now ways.now }
     ensures { ProvesAfter world.now conditions.now ways.now before result }
 {
     let mut rest = conditions;

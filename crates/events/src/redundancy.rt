@@ -61,7 +61,7 @@ fn states(alloc: Global, world: &World, formula: &Form, event: &Form) -> Result<
 {
     match read_event(alloc, event) {
         Ok(event) => match event {
-            Event::Defthm(_, other, _) => same_formulas(alloc, world, formula, other),
+            Event::Defthm(theorem) => same_formulas(alloc, world, formula, theorem.formula),
             _ => Ok(false),
         },
         Err(error) => match error {

@@ -3,6 +3,7 @@
 ghost use Rattle.std.specs.Prelude.{◌≡◌, ◌++◌, codes, IfOk, OnOk};
 ghost use Rattle.events.specs.Refusals as spec;
 
+use hint_prover::Reduction;
 use kernel::RuleName;
 use lisp_data::{Code, Detail, Symbol};
 use lists::{Memory, Text};
@@ -27,6 +28,11 @@ pub enum Refusal {
         condition: Symbol,
         node: u32,
     },
+    /// A condition isn't proved by its hints, whose reduction ends stuck.
+    NotProved {
+        condition: Symbol,
+        reduction: Reduction,
+    },
 }
 
 impl Drop for Refusal {
@@ -42,6 +48,10 @@ impl Drop for Refusal {
                 code: _,
                 condition: _,
                 node: _,
+            } => {}
+            Refusal::NotProved {
+                condition: _,
+                reduction: _,
             } => {}
         }
     }
@@ -116,6 +126,10 @@ impl Refusal {
                 condition: _,
                 node: _,
             } => *code,
+            Refusal::NotProved {
+                condition: _,
+                reduction: _,
+            } => Code::NotProved,
         }
     }
 
@@ -140,6 +154,13 @@ impl Refusal {
             } => {
                 let text = node_text(alloc, condition, *node)?;
                 out.extend(text.as_slice())
+            }
+            Refusal::NotProved {
+                condition,
+                reduction: _,
+            } => {
+                out.push(b' ')?;
+                out.extend(condition.text().as_bytes())
             }
         }
     }

@@ -13,7 +13,7 @@ use crate::kinds::defun::Defun;
 use crate::kinds::in_package::InPackage;
 use crate::kinds::include_book::IncludeBook;
 use crate::kinds::value_triple;
-use crate::lines::{one_line, refused_text};
+use crate::lines::refused_lines;
 use event_forms::{Event, read_event};
 use lisp_data::{Form, Memory};
 use lisp_reader::Located;
@@ -46,14 +46,7 @@ fn answer(alloc: Global, world: &World, form: &Form) -> Result<StepAnswer, Halt>
         Event::InPackage => handle(alloc, world, form, &InPackage),
         Event::IncludeBook(book) => handle(alloc, world, form, &IncludeBook { book }),
         Event::Defun(function) => handle(alloc, world, form, &Defun { function }),
-        Event::Defthm(name, formula, proof) => {
-            let event = Defthm {
-                name,
-                formula,
-                proof,
-            };
-            handle(alloc, world, form, &event)
-        }
+        Event::Defthm(theorem) => handle(alloc, world, form, &Defthm { theorem }),
         Event::ValueTriple(part) => value_triple::print(alloc, world, part),
     }
 }
@@ -73,8 +66,7 @@ pub fn step(
         Ok(answer) => Ok(answer),
         Err(halt) => match halt {
             Halt::Refused(why) => {
-                let line = refused_text(alloc, index, &why, located.place)?;
-                let lines = one_line(alloc, line)?;
+                let lines = refused_lines(alloc, index, &why, located.place)?;
                 Ok(StepAnswer::Refused(why.code().number(), lines))
             }
             Halt::Memory => Err(Memory),

@@ -15,6 +15,3 @@ pub use facts::{Facts, says};
 pub use formulas::rule_of;
 pub use hint::{Fact, Hints, Scheme, Use, Uses};
 pub use starting::{as_variables, bind, calls_of, conjunction, images, reduce_by, start};
-
-#[cfg(test)]
-mod tests;

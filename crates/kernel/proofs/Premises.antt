@@ -1,30 +1,14 @@
 -- Lists of premises, one after the other.
 use Rattle.std.proofs.Common.{◌≡◌, ◌+◌, ◌<◌, ◌≤◌, ℕ, zero, suc, List, [], ◌∷◌, ◌++◌, length, get_or, drop, take, map, Option, Some, None, refl, sym, ap, ◌∙◌, subst, arith}
-use native.Mathlib.Numerals.{unary_clauses}
-use Rattle.std.specs.Option.{option_or}
 use Rattle.std.proofs.lemmas.List.{append-nil, append_assoc, drop_all, take_all}
 use Rattle.std.proofs.lemmas.List.{take_more}
 use Rattle.terms.specs.Evaluation.{then_with}
 use Rattle.terms.specs.Worlds.{World}
 use Rattle.terms.specs.declared.sequent.Sequent.{Sequent}
-use Rattle.proof_objects.specs.ProofTrees.{ProofTree, Also, trees, depth, depths, steps, steps_in}
-use Rattle.kernel.specs.Concludes.{BadNode, concludes, all_concluded, first_bad, first_bad_in}
-use Rattle.kernel.specs.Conclusion.{Conclusion, IsProvedBy, proofs_of, sequents_of, AllIn}
-
--- the subproofs from the place i on: the one there, and the rest
-trees-drop : (ps : List ProofTree) (i : ℕ) (d : ProofTree) → i < length ps → trees (drop i ps) ≡ Also (get_or ps i d) (trees (drop (i + 1) ps))
-trees-drop [] i d h = absurd (omega arith)
-trees-drop (p ∷ ps) zero d h = refl
-trees-drop (p ∷ ps) (suc i) d h = simp unary_clauses (simp unary_clauses at (trees-drop ps i d (omega arith)))
-
-pub depth-get_or : (ps : List ProofTree) (i : ℕ) (d : ProofTree) → i < length ps → depth (get_or ps i d) < depths (trees ps)
-depth-get_or [] i d h = omega arith
-depth-get_or (p ∷ ps) zero d h = omega arith
-depth-get_or (p ∷ ps) (suc i) d h = omega (arith, depth-get_or ps i d (omega arith))
-
--- what is concluded of all, where the premises so far are these
-unfoldable pub rest_of : World → List Conclusion → List ProofTree → Option (List Sequent)
-rest_of W done ps = then_with (all_concluded W (trees ps)) (λ ss. Some (sequents_of done ++ ss))
+use Rattle.proof_objects.specs.ProofTrees.{ProofTree, trees}
+use Rattle.kernel.specs.Concludes.{concludes, all_concluded}
+use Rattle.kernel.specs.Conclusion.{Conclusion, proofs_of, sequents_of, AllIn}
+use Rattle.kernel.specs.view.Checking.{rest_of}
 
 pub rest-start : (W : World) (ps : List ProofTree) → rest_of W [] ps ≡ all_concluded W (trees ps)
 unfolding rest_of
@@ -42,34 +26,16 @@ pub sequents-snoc : (done : List Conclusion) (c : Conclusion) (ss : List Sequent
 sequents-snoc [] c ss = refl
 sequents-snoc (d ∷ done) c ss = ap (λ x. d.sequent ∷ x) (sequents-snoc done c ss)
 
-pub rest-next : (W : World) (done : List Conclusion) (c : Conclusion) (ps : List ProofTree) (i : ℕ) (d : ProofTree) → i < length ps → IsProvedBy c W (get_or ps i d) → rest_of W done (drop i ps) ≡ rest_of W (done ++ c ∷ []) (drop (i + 1) ps)
+-- a premise more
+pub rest-next : (W : World) (done : List Conclusion) (c : Conclusion) (p : ProofTree) (ps : List ProofTree) → concludes W p ≡ Some c.sequent → rest_of W done (p ∷ ps) ≡ rest_of W (done ++ c ∷ []) ps
 unfolding rest_of
-rest-next W done c ps i d h proved =
-    ap (λ t. then_with (all_concluded W t) (λ ss. Some (sequents_of done ++ ss))) (trees-drop ps i d h)
-    ∙ ap (λ o. then_with (then_with o (λ s. then_with (all_concluded W (trees (drop (i + 1) ps))) (λ ss. Some (s ∷ ss)))) (λ ss. Some (sequents_of done ++ ss))) proved.concludes
-    ∙ by_rest (all_concluded W (trees (drop (i + 1) ps)))
+rest-next W done c p ps proved =
+    ap (λ o. then_with (then_with o (λ s. then_with (all_concluded W (trees ps)) (λ ss. Some (s ∷ ss)))) (λ ss. Some (sequents_of done ++ ss))) proved
+    ∙ by_rest (all_concluded W (trees ps))
   where
     by_rest : (o : Option (List Sequent)) → then_with (then_with o (λ ss. Some (c.sequent ∷ ss))) (λ ss. Some (sequents_of done ++ ss)) ≡ then_with o (λ ss. Some (sequents_of (done ++ c ∷ []) ++ ss))
     by_rest None = refl
     by_rest (Some ss) = ap Some (sym (sequents-snoc done c ss))
-
-pub rest-none : (W : World) (done : List Conclusion) (ps : List ProofTree) (i : ℕ) (d : ProofTree) → i < length ps → concludes W (get_or ps i d) ≡ None → rest_of W done (drop i ps) ≡ None
-unfolding rest_of
-rest-none W done ps i d h none =
-    ap (λ t. then_with (all_concluded W t) (λ ss. Some (sequents_of done ++ ss))) (trees-drop ps i d h)
-    ∙ ap (λ o. then_with (then_with o (λ s. then_with (all_concluded W (trees (drop (i + 1) ps))) (λ ss. Some (s ∷ ss)))) (λ ss. Some (sequents_of done ++ ss))) none
-
--- bad nodes of the proofs from the place i on
-pub bad-next : (W : World) (n : ℕ) (ps : List ProofTree) (i : ℕ) (d : ProofTree) → i < length ps → first_bad W n (get_or ps i d) ≡ None → first_bad_in W n (trees (drop i ps)) ≡ first_bad_in W (n + steps (get_or ps i d)) (trees (drop (i + 1) ps))
-bad-next W n ps i d h none = ap (first_bad_in W n) (trees-drop ps i d h) ∙ ap (λ o. option_or o (first_bad_in W (n + steps (get_or ps i d)) (trees (drop (i + 1) ps)))) none
-
-pub bad-here : (W : World) (n : ℕ) (ps : List ProofTree) (i : ℕ) (d : ProofTree) (b : BadNode) → i < length ps → first_bad W n (get_or ps i d) ≡ Some b → first_bad_in W n (trees (drop i ps)) ≡ Some b
-bad-here W n ps i d b h bad = ap (first_bad_in W n) (trees-drop ps i d h) ∙ ap (λ o. option_or o (first_bad_in W (n + steps (get_or ps i d)) (trees (drop (i + 1) ps)))) bad
-
-pub steps-next : (ps : List ProofTree) (i : ℕ) (d : ProofTree) → i < length ps → steps_in (trees (drop i ps)) ≡ steps (get_or ps i d) + steps_in (trees (drop (i + 1) ps))
-steps-next ps i d h = ap steps_in (trees-drop ps i d h)
-
-pub ruleset premises = (depth-get_or, rest-start, rest-end, rest-next, rest-none, bad-next, bad-here, steps-next, drop_all)
 
 -- premises that are what their proofs conclude
 all_concluded-snoc : (W : World) (cs : List Conclusion) (c : Conclusion) → all_concluded W (trees (proofs_of cs)) ≡ Some (sequents_of cs) → concludes W c.proof ≡ Some c.sequent → all_concluded W (trees (proofs_of (cs ++ c ∷ []))) ≡ Some (sequents_of (cs ++ c ∷ []))

@@ -18,6 +18,3 @@ pub use print::{print_form, print_value};
 pub use read::ReadError;
 pub use reader::{FormReader, Located};
 pub use value::value_of;
-
-#[cfg(test)]
-mod tests;

@@ -22,9 +22,18 @@ pub struct RecursiveCall {
 /// Recursive calls, in the order in which they begin in the text of the term.
 pub type RecursiveCalls = Seq<RecursiveCall>;
 
+/// The tests, with one more.
+fn with_test(alloc: Global, tests: &Terms, test: Term) -> Result<Terms, Memory>
+    ensures { IfOk result (λ ts. ts ≡ tests.now ++ test ∷ []) }
+{
+    let mut all = tests.copy(alloc)?;
+    all.push(test)?;
+    Ok(all)
+}
+
 /// Where an argument stands: under no test of its call, or as the test or a branch of an `if`.
 #[derive(Clone, Copy)]
-enum Position<'a> {
+pub enum Position<'a> {
     Plain,
     Test(&'a Term),
     Then(&'a Term),
@@ -32,8 +41,9 @@ enum Position<'a> {
 }
 
 impl<'a> Position<'a> {
-    /// Where the first argument stands. A test that calls the function rules nothing.
-    fn first(name: &Symbol, called: &Symbol, args: &'a [Term]) -> Position<'a>
+    /// Where the first argument of a call stands, for a function of this name. A test that calls the function rules
+    /// nothing.
+    pub fn first(name: &Symbol, called: &Symbol, args: &'a [Term]) -> Position<'a>
         ensures { place_of result ≡ spec.first_place name.now called.now (tms args.now) }
     {
         match args {
@@ -49,7 +59,7 @@ impl<'a> Position<'a> {
     }
 
     /// Where the next argument stands.
-    fn next(self) -> Position<'a>
+    pub fn next(self) -> Position<'a>
         ensures { place_of result ≡ spec.next (place_of self.entry) }
     {
         match self {
@@ -59,15 +69,18 @@ impl<'a> Position<'a> {
             Position::Else(_) => Position::Plain,
         }
     }
-}
 
-/// The tests, with one more.
-fn with_test(alloc: Global, tests: &Terms, test: Term) -> Result<Terms, Memory>
-    ensures { IfOk result (λ ts. ts ≡ tests.now ++ test ∷ []) }
-{
-    let mut all = tests.copy(alloc)?;
-    all.push(test)?;
-    Ok(all)
+    /// The tests that rule what stands there, where these rule the call.
+    pub fn tests_at(self, alloc: Global, tests: &Terms) -> Result<Terms, Memory>
+        ensures { IfOk result (λ ts. ts ≡ spec.tests_at (place_of self.entry) tests.now) }
+    {
+        match self {
+            Position::Plain => tests.copy(alloc),
+            Position::Test(_) => tests.copy(alloc),
+            Position::Then(test) => with_test(alloc, tests, test.share()?),
+            Position::Else(test) => with_test(alloc, tests, not(alloc, test.share()?)?),
+        }
+    }
 }
 
 /// Adds the call, where it is one of the function.
@@ -128,13 +141,12 @@ fn collect_at(
     match position {
         Position::Plain => collect(alloc, name, tests, term, found),
         Position::Test(_) => collect(alloc, name, tests, term, found),
-        Position::Then(test) => {
-            let tests = with_test(alloc, tests, test.share()?)?;
+        Position::Then(_) => {
+            let tests = position.tests_at(alloc, tests)?;
             collect(alloc, name, &tests, term, found)
         }
-        Position::Else(test) => {
-            let denial = not(alloc, test.share()?)?;
-            let tests = with_test(alloc, tests, denial)?;
+        Position::Else(_) => {
+            let tests = position.tests_at(alloc, tests)?;
             collect(alloc, name, &tests, term, found)
         }
     }

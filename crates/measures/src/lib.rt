@@ -10,7 +10,7 @@ mod errors;
 mod owed;
 mod shapes;
 
-pub use calls::{RecursiveCall, RecursiveCalls, recursive_calls};
+pub use calls::{Position, RecursiveCall, RecursiveCalls, recursive_calls};
 pub use counts::has_obligation;
 pub use defaults::default_measure;
 pub use errors::MeasureError;

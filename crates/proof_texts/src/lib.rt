@@ -9,8 +9,6 @@ mod parts;
 mod print;
 mod read;
 mod steps;
-#[cfg(test)]
-mod tests;
 mod words;
 
 pub use errors::ProofError;

@@ -30,6 +30,3 @@ pub use shapes::{
     is_quoted_nil, is_true_quote, mentions, negation, of_one, of_three, of_two, quoted_nil,
 };
 pub use steps::occurs;
-
-#[cfg(test)]
-mod tests;

@@ -16,6 +16,3 @@ pub use errors::RingError;
 pub use laws::{own_monomials_decide, same_polynomials_are_equal};
 pub use limits::{MAX_MONOMIALS, MAX_NORM};
 pub use shape::is_arithmetic;
-
-#[cfg(test)]
-mod tests;

@@ -10,8 +10,6 @@ mod naming;
 mod print;
 mod scope;
 mod shapes;
-#[cfg(test)]
-mod tests;
 mod translation;
 mod translation_laws;
 

@@ -1,10 +1,11 @@
 -- What the code's events are seen as.
 use Rattle.std.specs.Prelude.{map, Option, option_map, IfSome}
 use Rattle.lisp_data.specs.FormView.{form_of, IsProper, AllProper}
-use Rattle.event_forms.specs.Clauses.{clauses_in}
+use Rattle.event_forms.specs.Clauses.{clauses_in, hints_in}
 use Rattle.event_forms.specs.Shapes as spec
 use Rattle.event_forms.specs.declared.shapes.Event.{Event}
 use Rattle.event_forms.specs.declared.shapes.FunctionParts.{FunctionParts}
+use Rattle.event_forms.specs.declared.shapes.TheoremParts.{TheoremParts}
 use Rattle.event_forms.specs.declared.shapes.Event.TheVariants.{InPackage, IncludeBook, Defun, Defthm, ValueTriple}
 
 -- what f gives of a part that may be left out
@@ -18,13 +19,22 @@ function_seen f = record {
   body = form_of f.body.now;
   measure = if_given f.measure (λ m. form_of m.now);
   proofs = clauses_in (map form_of f.proofs.now);
+  hows = hints_in (map form_of f.hows.now);
+}
+
+abbrev pub theorem_seen : TheoremParts → spec.TheoremParts
+theorem_seen t = record {
+  name = t.name.now;
+  formula = form_of t.formula.now;
+  proof = if_given t.proof (λ p. form_of p.now);
+  how = if_given t.how (λ steps. map form_of steps.now);
 }
 
 abbrev pub seen : Event → spec.Event
 seen InPackage = spec.InPackage
 seen (IncludeBook book) = spec.IncludeBook book.now
 seen (Defun function) = spec.Defun (function_seen function)
-seen (Defthm name formula proof) = spec.Defthm name.now (form_of formula.now) (if_given proof (λ p. form_of p.now))
+seen (Defthm theorem) = spec.Defthm (theorem_seen theorem)
 seen (ValueTriple form) = spec.ValueTriple (form_of form.now)
 
 -- the forms in it are proper
@@ -33,10 +43,16 @@ pub record IsProperFunction (f : FunctionParts) : Type 0 where
   pub body : IsProper f.body.now
   pub measure : IfSome f.measure (λ m. IsProper m.now)
   pub proofs : AllProper f.proofs.now
+  pub hows : AllProper f.hows.now
+
+pub record IsProperTheorem (t : TheoremParts) : Type 0 where
+  pub formula : IsProper t.formula.now
+  pub proof : IfSome t.proof (λ p. IsProper p.now)
+  pub how : IfSome t.how (λ steps. AllProper steps.now)
 
 abbrev pub HasProperParts : Event → Type 0
 HasProperParts InPackage = Unit {0}
 HasProperParts (IncludeBook book) = Unit {0}
 HasProperParts (Defun function) = IsProperFunction function
-HasProperParts (Defthm name formula proof) = IsProper formula.now × IfSome proof (λ p. IsProper p.now)
+HasProperParts (Defthm theorem) = IsProperTheorem theorem
 HasProperParts (ValueTriple form) = IsProper form.now

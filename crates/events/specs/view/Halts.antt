@@ -1,5 +1,5 @@
 -- What the calls that handle an event answer.
-use Rattle.std.specs.Prelude.{◌≡◌, ℕ, Bool, true, if◌then◌else◌, bytes_eq, codes, List, [], ◌∷◌, ◌++◌, map, Option, Some, None, Result, Ok, Err}
+use Rattle.std.specs.Prelude.{◌≡◌, ℕ, Bool, true, if◌then◌else◌, bytes_eq, codes, List, [], ◌∷◌, ◌++◌, map, Option, Some, None, IfSome, Result, Ok, Err}
 use Rattle.lisp_data.specs.FormView.{form_of, IsProper, AllProper}
 use Rattle.lisp_data.specs.Datum.{Datum}
 use Rattle.lisp_data.specs.Values.{Name, Val}
@@ -7,6 +7,7 @@ use Rattle.lisp_data.specs.declared.code.Code.{Code}
 use Rattle.lisp_data.specs.declared.code.Code.TheVariants as code
 use Rattle.lisp_data.specs.declared.detail.Detail.{Detail}
 use Rattle.lisp_data.specs.declared.detail.Detail.TheVariants as detail
+use Rattle.terms.specs.Terms.{Tm}
 use Rattle.terms.specs.Worlds.{World}
 use Rattle.term_forms.specs.Translation.{Outcome, map_outcome}
 use Rattle.term_forms.specs.declared.translation.TermError.{TermError}
@@ -15,22 +16,28 @@ use Rattle.evaluator.specs.declared.errors.EvalError.{EvalError}
 use Rattle.evaluator.specs.declared.errors.EvalError.TheVariants as eval
 use Rattle.kernel.specs.Conclusion.{Conclusion}
 use Rattle.kernel.specs.declared.errors.RuleName.{RuleName}
-use Rattle.event_forms.specs.Clauses.{clauses_in}
+use Rattle.terms.specs.declared.sequent.Sequent.{Sequent}
+use Rattle.hints.specs.declared.errors.HintError.{HintError}
+use Rattle.hints.specs.declared.errors.HintError.TheVariants as hint
+use Rattle.event_forms.specs.Clauses.{clauses_in, hints_in}
+use Rattle.event_forms.specs.ShapeView.{if_given}
 use Rattle.event_forms.specs.Shapes.{Event}
 use Rattle.event_forms.specs.declared.errors.EventError.{EventError}
 use Rattle.event_forms.specs.declared.errors.EventError.TheVariants as event
 use Rattle.proof_texts.specs.declared.errors.ProofError.{ProofError}
 use Rattle.proof_texts.specs.declared.errors.ProofError.TheVariants as proof
+use Rattle.reduction_proofs.specs.Proving.{FitsHints}
 use Rattle.plans.specs.declared.plan.Condition.{Condition}
 use Rattle.plans.specs.declared.plan.Plan.{Plan}
 use Rattle.plans.specs.Entries.{add_entries}
 use Rattle.plans.specs.Proving.{proves, sequents, ProvesAll, AreProofs}
-use Rattle.events.specs.declared.refusal.Refusal.TheVariants.{Coded, ProofWrong, AtNode}
+use Rattle.events.specs.declared.refusal.Refusal.TheVariants.{Coded, ProofWrong, AtNode, NotProved}
 use Rattle.events.specs.declared.halt.Halt.{Halt}
 use Rattle.events.specs.declared.halt.Halt.TheVariants.{Refused, Memory}
 use Rattle.events.specs.declared.clauses.Clauses.{Clauses}
 use Rattle.events.specs.declared.clauses.Clauses.TheVariants.{NoClauses, Goal, Each}
 use Rattle.events.specs.declared.clauses.Way.{Way}
+use Rattle.events.specs.declared.clauses.Way.TheVariants.{ByProof, ByHints}
 use Rattle.events.specs.declared.handle.Made.{Made}
 use Rattle.events.specs.declared.redundancy.Repeats.{Repeats}
 use Rattle.events.specs.declared.redundancy.Repeats.TheVariants.{Never, AsForm, AsTheorem}
@@ -40,7 +47,8 @@ use Rattle.events.specs.Frames as frames
 use Rattle.events.specs.Frames.{Judged, Frame}
 use Rattle.events.specs.Kinds.{frame_of}
 use Rattle.events.specs.Verdicts as verdict
-use Rattle.events.specs.Verdicts.{is_condition, by_way, all_proved, checked, verdict_of}
+use Rattle.events.specs.Defthm.{goal_clauses}
+use Rattle.events.specs.Verdicts.{is_condition, is_served, by_way, all_proved, checked, verdict_of}
 use Rattle.events.specs.Lines.{event_text, value_line}
 use Rattle.events.specs.declared.handle.EventProofs.{EventProofs}
 
@@ -53,6 +61,11 @@ IsCoded code detail Memory = Unit {0}
 abbrev pub IsWrong : Name → ℕ → RuleName → Halt → Type 0
 IsWrong condition node rule (Refused why) = why ≡ ProofWrong condition node rule
 IsWrong condition node rule Memory = Unit {0}
+
+-- a condition isn't proved by its hints, or it is want of memory
+abbrev pub IsStuck : Name → Sequent → Halt → Type 0
+IsStuck condition leaf (Refused why) = why ≡ NotProved condition leaf
+IsStuck condition leaf Memory = Unit {0}
 
 -- a rule of a condition's proof can't go on, or it is want of memory
 abbrev pub IsStopped : Name → ℕ → Code → Halt → Type 0
@@ -85,6 +98,10 @@ abbrev pub IsFromProof : ProofError → Halt → Type 0
 IsFromProof (proof.Refused code detail) e = e ≡ Refused (Coded code detail)
 IsFromProof proof.Memory e = e ≡ Memory
 
+abbrev pub IsFromHint : HintError → Halt → Type 0
+IsFromHint (hint.Refused code detail) e = e ≡ Refused (Coded code detail)
+IsFromHint hint.Memory e = e ≡ Memory
+
 abbrev pub IsFromTerm : TermError → Halt → Type 0
 IsFromTerm (term.Refused code detail) e = e ≡ Refused (Coded code detail)
 IsFromTerm term.Memory e = e ≡ Memory
@@ -99,23 +116,38 @@ IsFromEvaluation eval.Memory e = e ≡ Memory
 -- what the code's clauses are seen as
 abbrev pub clauses_seen : Clauses → frames.Clauses
 clauses_seen NoClauses = frames.no_clauses
-clauses_seen (Goal text) = record { proofs = (codes ":GOAL", form_of text.now) ∷ [] }
-clauses_seen (Each forms) = record { proofs = clauses_in (map form_of forms.now) }
+clauses_seen (Goal proof how) = goal_clauses (if_given proof (λ p. form_of p.now)) (if_given how (λ steps. map form_of steps.now))
+clauses_seen (Each proofs hows) = record { proofs = clauses_in (map form_of proofs.now); hows = hints_in (map form_of hows.now) }
 
 abbrev pub AreProper : Clauses → Type 0
 AreProper NoClauses = Unit {0}
-AreProper (Goal text) = IsProper text.now
-AreProper (Each forms) = AllProper forms.now
+AreProper (Goal proof how) = IfSome proof (λ p. IsProper p.now) × IfSome how (λ steps. AllProper steps.now)
+AreProper (Each proofs hows) = AllProper proofs.now × AllProper hows.now
 
 -- what is a clause is of a condition
 abbrev pub of_condition : List Condition → Option (Name × Datum) → Bool
 of_condition cs None = true
 of_condition cs (Some c) = is_condition cs c.0
 
--- the text of a clause of the condition n
-abbrev pub text_under : Option (Name × Datum) → Name → Option Datum
-text_under None n = None
-text_under (Some c) n = if bytes_eq n c.0 then Some c.1 else None
+-- what is a clause of hints serves a condition
+abbrev pub serves_condition : List Condition → Option (Name × List Datum) → Bool
+serves_condition cs None = true
+serves_condition cs (Some c) = is_served cs c.0
+
+-- what a clause has for the condition n
+abbrev pub part_under : {A : Type 0} → Option (Name × A) → Name → Option A
+part_under None n = None
+part_under (Some c) n = if bytes_eq n c.0 then Some c.1 else None
+
+-- the way is one for a condition with these universals
+abbrev pub FitsWay : World → List Tm → Way → Type 0
+FitsWay W us (ByProof p) = Unit {0}
+FitsWay W us (ByHints h) = FitsHints W us h
+
+abbrev pub FitWays : World → List Condition → List Way → Type 0
+FitWays W [] ws = Unit {0}
+FitWays W (c ∷ cs) [] = Unit {0}
+FitWays W (c ∷ cs) (w ∷ ws) = FitsWay W c.sequent.universals w × FitWays W cs ws
 
 -- what the code's word on redundancy is seen as
 abbrev pub repeats_seen : Repeats → frames.Repeats

@@ -1,15 +1,15 @@
 //! `defthm`.
 
-ghost use Rattle.std.specs.Prelude.{◌≡◌, IfOk, IfSome};
-ghost use Rattle.lisp_data.specs.FormView.{form_of, IsProper};
-ghost use Rattle.event_forms.specs.ShapeView.{if_given};
+ghost use Rattle.std.specs.Prelude.{◌≡◌, IfOk};
+ghost use Rattle.event_forms.specs.ShapeView.{theorem_seen, IsProperTheorem};
 ghost use Rattle.events.specs.Defthm as spec;
 
 use crate::clauses::Clauses;
 use crate::halt::Halt;
 use crate::kind::Kind;
 use crate::redundancy::Repeats;
-use lisp_data::{Form, Symbol, Symbols};
+use event_forms::TheoremParts;
+use lisp_data::{Symbol, Symbols};
 use lists::{Memory, Text};
 use plans::{Condition, Entry, Plan};
 use std::alloc::Global;
@@ -17,12 +17,10 @@ use term_forms::{Scope, translate};
 use terms::{Sequent, Term, Terms};
 use worlds::World;
 
-/// `(defthm n formula .. :proof proof)`.
+/// `(defthm n formula ..)`.
 #[derive(Clone, Copy)]
 pub struct Defthm<'a> {
-    pub name: &'a Symbol,
-    pub formula: &'a Form,
-    pub proof: Option<&'a Form>,
+    pub theorem: TheoremParts<'a>,
 }
 
 /// What a theorem claims.
@@ -46,9 +44,9 @@ fn goal(alloc: Global, formula: &Term) -> Result<Condition, Memory>
 }
 
 impl Kind for Defthm<'_> {
-    ghost frame = { λ e. spec.defthm e.name.now (form_of e.formula.now) (if_given e.proof (λ p. form_of p.now)) };
+    ghost frame = { λ e. spec.defthm (theorem_seen e.theorem) };
 
-    ghost proper = { λ e. IsProper e.formula.now × IfSome e.proof (λ p. IsProper p.now) };
+    ghost proper = { λ e. IsProperTheorem e.theorem };
 
     fn is_lawful(&self) {
         term_forms::translated_terms_fit();
@@ -56,32 +54,32 @@ impl Kind for Defthm<'_> {
 
     fn write_title(&self, out: &mut Text) -> Result<(), Memory> {
         out.extend(b"defthm ")?;
-        out.extend(self.name.text().as_bytes())
+        out.extend(self.theorem.name.text().as_bytes())
     }
 
     fn names(&self, alloc: Global) -> Result<Symbols, Memory> {
         let mut names = Symbols::new(alloc);
-        names.push(self.name.share()?)?;
+        names.push(self.theorem.name.share()?)?;
         Ok(names)
     }
 
     fn repeats(&self) -> Repeats<'_> {
-        Repeats::AsTheorem(self.name, self.formula)
+        Repeats::AsTheorem(self.theorem.name, self.theorem.formula)
     }
 
     fn clauses(&self) -> Clauses<'_> {
-        match self.proof {
-            None => Clauses::NoClauses,
-            Some(text) => Clauses::Goal(text),
+        Clauses::Goal {
+            proof: self.theorem.proof,
+            how: self.theorem.how,
         }
     }
 
     fn plan(&self, alloc: Global, world: &World) -> Result<Plan, Halt> {
-        let formula = translate(alloc, self.formula, world, &Scope::Any)?;
+        let formula = translate(alloc, self.theorem.formula, world, &Scope::Any)?;
         let mut plan = Plan::new(alloc);
         let claim = claim(alloc, &formula)?;
         plan.entries
-            .push(Entry::Theorem(self.name.share()?, claim))?;
+            .push(Entry::Theorem(self.theorem.name.share()?, claim))?;
         plan.conditions.push(goal(alloc, &formula)?)?;
         Ok(plan)
     }

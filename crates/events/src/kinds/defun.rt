@@ -47,7 +47,10 @@ impl Kind for Defun<'_> {
     }
 
     fn clauses(&self) -> Clauses<'_> {
-        Clauses::Each(self.function.proofs)
+        Clauses::Each {
+            proofs: self.function.proofs,
+            hows: self.function.hows,
+        }
     }
 
     fn plan(&self, alloc: Global, world: &World) -> Result<Plan, Halt> {

@@ -6,7 +6,7 @@ use Rattle.event_forms.proofs.keys.has_unbuilt.Given as goal
 abbrev pub invariant-loop-rest : goal.invariant-loop-rest
 invariant-loop-rest l = record {
   proper : AllProper l.rest;
-  same : spec.has_unbuilt l.kind (map form_of l.rest) ≡ spec.has_unbuilt l.kind (map form_of l.parts);
+  same : spec.has_unbuilt (map form_of l.rest) ≡ spec.has_unbuilt (map form_of l.parts);
 }
 
 abbrev pub decreases-loop-rest : goal.decreases-loop-rest

@@ -1,10 +1,20 @@
+use Rattle.std.proofs.Common.{sym, subst}
+use Rattle.events.specs.Laws.{ConditionsFit}
 use Rattle.events.specs.view.Halts.{clauses_seen}
-use Rattle.events.proofs.HandleLemmas.{admitted, carried, made_by}
+use Rattle.events.proofs.HandleLemmas.{admitted, suited, carried, made_by}
 use Rattle.events.proofs.handle.carry_out.Goals as goal
+
+pub prove_all-requires-clause-fits : goal.prove_all-requires-clause-fits
+prove_all-requires-clause-fits c = subst (ConditionsFit c.args.world.now) (sym c.as_slice-conditions.ensures) c.requires.suited.fits
+
+pub prove_all-requires-clause-ways : goal.prove_all-requires-clause-ways
+prove_all-requires-clause-ways c =
+    suited c.hints_fit.ensures c.reductions_prove.ensures c.args.world.now c.soundness.ensures (clauses_seen c.args.clauses.now) c.as_slice-conditions.result.now c.new.result c.in_ok-ways.ways c.as_slice.result.now
+    c.new.ensures c.in_ok-ways.ensures c.as_slice.ensures
 
 pub install-requires : goal.install-requires
 install-requires c =
-    admitted c.args.world.now c.in_ok-share.field-0 c.soundness.ensures c.args.plan.now c.requires.lawful (clauses_seen c.args.clauses.now) c.as_slice-conditions.result.now c.new.result c.in_ok-ways.ways c.as_slice.result.now c.as_slice-2.result.now
+    admitted c.hints_fit.ensures c.reductions_prove.ensures c.args.world.now c.in_ok-share.field-0 c.soundness.ensures c.args.plan.now c.requires.suited.lawful c.requires.suited.fits (clauses_seen c.args.clauses.now) c.as_slice-conditions.result.now c.new.result c.in_ok-ways.ways c.as_slice.result.now c.as_slice-2.result.now
     c.as_slice-conditions.ensures c.new.ensures c.in_ok-ways.ensures c.as_slice.ensures c.in_ok-before.ensures.accepted c.in_ok-share.ensures c.as_slice-2.ensures
 
 pub returns : goal.returns

@@ -1,4 +1,4 @@
-use Rattle.std.proofs.Common.{◌∷◌, [], ap, ◌∙◌}
+use Rattle.std.proofs.Common.{ap, ◌∙◌}
 use Rattle.lisp_data.specs.FormView.{form_of}
 use Rattle.lisp_data.specs.RefusalCodes.{number}
 use Rattle.events.proofs.StepLemmas.{stepped, refused_step}
@@ -10,4 +10,4 @@ returns-in-Ok c = stepped c.args.world.now (form_of c.args.located.now.form) c.a
 pub returns-in_ok-lines-in-Refused : goal.returns-in_ok-lines-in-Refused
 returns-in_ok-lines-in-Refused c =
     refused_step c.args.world.now (form_of c.args.located.now.form) c.args.located.now.place c.args.index c.in-Refused.why c.number.result c.in_ok-lines-in-Refused.lines
-    (rw c.in-Refused.is at c.in-Err.ensures) (c.number.ensures ∙ ap number c.code.ensures) (c.in_ok-lines-in-Refused.ensures ∙ ap (λ line. line ∷ []) c.in_ok-line-in-Refused.ensures)
+    (rw c.in-Refused.is at c.in-Err.ensures) (c.number.ensures ∙ ap number c.code.ensures) c.in_ok-lines-in-Refused.ensures

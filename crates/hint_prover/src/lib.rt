@@ -1,0 +1,19 @@
+//! The prover: a condition is reduced by its hints, and a reduction that closes gives a proof. Parts of proofs, and the check of one that proves
+//! its condition, are here for other ways to a proof.
+#![tactic(auto)]
+
+mod derived;
+mod errors;
+mod formulas;
+mod prover;
+mod reasons;
+mod starting;
+mod trees;
+mod way_back;
+
+pub use derived::turned;
+pub use errors::{ProveError, Reduction};
+pub use formulas::{conditional, equation};
+pub use prover::{MAX_STEPS, checked, prove};
+pub use starting::by_calls;
+pub use trees::{cases, hyp, if_false, if_true, refl, replace};
