@@ -15,14 +15,14 @@ use Rattle.clap.specs.Values.{bool_text}
 use Rattle.clap.specs.declared.error.ErrorKind.TheVariants as kind
 use Rattle.clap.specs.declared.parser.matches.ValueSource.TheVariants.{DefaultValue}
 use Rattle.clap.specs.declared.builder.value_parser.Reading.TheVariants.{AsWritten}
-use Rattle.book_cli.specs.CommandLines.{IsModeLine, IsRefusalOf, continues, shows}
+use Rattle.book_cli.specs.CommandLines.{IsModeLine, IsRefusalOf, flags_of}
 use Rattle.book_cli.specs.declared.words.UsageFault.{UsageFault}
 use Rattle.book_cli.specs.declared.words.WordsError.{WordsError}
 use Rattle.book_cli.specs.declared.words.WordsError.TheVariants.{Usage, Memory}
 use Rattle.clap.specs.declared.error.Error.{Error}
 use Rattle.clap.specs.declared.parser.ArgMatches.{ArgMatches}
 use Rattle.book_cli.specs.view.CommandMatches.{HasFlags, derive_app, is_check, line_in}
-use Rattle.book_cli.specs.declared.words.ModeLine.{ModeLine}
+use Rattle.book_cli.specs.declared.words.Flags.{Flags}
 use Rattle.book_cli.proofs.CommandReading.{Asks, Text, Seen, asked, line_back, line_read, see_all, start}
 use Rattle.book_cli.proofs.CommandWalk.{Fits, Pending, Stands, Walked, at_none, continue_rule, count_rule, flag_row, found_other, found_own, has_none, has_one, held, mode_rule, or_no_kind, row, row_at, rules, shape, show_rule, walk_at, walks}
 
@@ -225,9 +225,9 @@ refused_words words u fault is =
 
 -- what the matches give, where the command matches the words
 pub record Matched (words : List Text) (rows : List Row) : Type 0 where
-  pub flags : ModeLine
+  pub flags : Flags
   pub has : HasFlags rows flags
-  pub some : (line : ModeLine) → line_in rows flags ≡ Some line → Asks words line
+  pub some : (line : Flags) → line_in rows flags ≡ Some line → Asks words line
   pub none : line_in rows flags ≡ None → IsModeLine words → ⊥
 
 flag_text : (id : Text) (given : Bool) (rows : List Row) → row_at id rows ≡ Some (flag_end id given) → one_of id rows ≡ Some (bool_text given)
@@ -259,7 +259,7 @@ matched words t e rows f few =
       none = λ n is. refused (is_check_line t.operands) refl (sym line ∙ n) is;
     }
   where
-    given : (b : Bool) → is_check_line t.operands ≡ b → (l : ModeLine) → (if b then Some (asked t) else None) ≡ Some l → Asks words l
+    given : (b : Bool) → is_check_line t.operands ≡ b → (l : Flags) → (if b then Some (asked t) else None) ≡ Some l → Asks words l
     given true c l s = let same : asked t ≡ l = cc in subst (Asks words) same (line_read words t e (only_check t.operands few c))
     given false c l s = cc
 
@@ -302,15 +302,14 @@ module _ (a : App) (ws words : List Text) (is : a ≡ derive_app) (same : ws ≡
       by (inr among) none = subst (IsAmong (kind_of e)) (same_fault ∙ none) among
 
 -- the mode line that the matches give, or usage
-pub record Given (words : List Text) (r : Result ModeLine WordsError) : Type 0 where
+pub record Given (words : List Text) (r : Result Flags WordsError) : Type 0 where
   pub mode : IfOk r (λ line. IsModeLine words)
-  pub continue_asked : IfOk r (λ line. line.continues ≡ continues words)
-  pub show_asked : IfOk r (λ line. line.shows ≡ shows words)
+  pub flags_are : IfOk r (λ line. line ≡ flags_of words)
   pub refusal : IfErr r (IsRefusalOf words)
 
-pub line_given : (words : List Text) (rows : List Row) (m : Matched words rows) (o : Option ModeLine) (f : UsageFault) → o ≡ line_in rows m.flags
+pub line_given : (words : List Text) (rows : List Row) (m : Matched words rows) (o : Option Flags) (f : UsageFault) → o ≡ line_in rows m.flags
     → Given words (ok_or o (Usage f))
 line_given words rows m (Some line) f is =
     let a = m.some line (sym is) in
-    record { mode = a.is; continue_asked = a.continue_asked; show_asked = a.show_asked; refusal = tt }
-line_given words rows m None f is = record { mode = tt; continue_asked = tt; show_asked = tt; refusal = m.none (sym is) }
+    record { mode = a.is; flags_are = a.flags_are; refusal = tt }
+line_given words rows m None f is = record { mode = tt; flags_are = tt; refusal = m.none (sym is) }

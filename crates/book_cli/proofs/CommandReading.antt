@@ -7,8 +7,8 @@ use Rattle.std.proofs.lemmas.Slice.Eq.{bytes_eq-Decides}
 use Rattle.std.specs.Str.{bytes_eq, chars, is_utf8, IsUtf8}
 use Rattle.std.specs.Char.{encode_utf8}
 use Rattle.std.proofs.lemmas.Str.{IsUtf8-from_is_utf8}
-use Rattle.book_cli.specs.CommandLines.{continues, ends_flags, flags, is_dashed, is_known, operands, shows, IsModeLine}
-use Rattle.book_cli.specs.declared.words.ModeLine.{ModeLine}
+use Rattle.book_cli.specs.CommandLines.{continues, ends_flags, flags, flags_of, is_dashed, is_known, operands, shows, IsModeLine}
+use Rattle.book_cli.specs.declared.words.Flags.{Flags}
 
 abbrev pub Text : Type 0
 Text = List ℕ
@@ -374,7 +374,7 @@ all_back (word ∷ words) s u few r =
 abbrev pub start : Seen
 start = record { continues = false; shows = false; operands = []; ends = false }
 
-abbrev pub asked : Seen → ModeLine
+abbrev pub asked : Seen → Flags
 asked t = record { continues = t.continues; shows = t.shows }
 
 -- a flag is on the line, or isn't
@@ -421,10 +421,9 @@ each_once fl known continue_once show_once flag = go (bytes_eq (codes "--continu
     go false false wa wb = omega (arith, none_other flag (rw (wa, wb) refl) fl known)
 
 -- the line, and what it asks for
-pub record Asks (words : List Text) (line : ModeLine) : Type 0 where
+pub record Asks (words : List Text) (line : Flags) : Type 0 where
   pub is : IsModeLine words
-  pub continue_asked : line.continues ≡ continues words
-  pub show_asked : line.shows ≡ shows words
+  pub flags_are : line ≡ flags_of words
 
 -- the words were read with `check` as the one operand
 pub line_read : (words : List Text) (t : Seen) → see_all start words ≡ Some t → t.operands ≡ codes "check" ∷ [] → Asks words (asked t)
@@ -432,14 +431,18 @@ line_read words t e only =
     let r : Reads start t (flags words) (operands words) = all_read words start t e in
     let continue_once : count_by (bytes_eq (codes "--continue")) (flags words) ≤ 1 = omega (arith, r.continues, once_most t.continues) in
     let show_once : count_by (bytes_eq (codes "--show")) (flags words) ≤ 1 = omega (arith, r.shows, once_most t.shows) in
+    let continue_asked : t.continues ≡ continues words =
+    once_same t.continues (continues words) (omega (arith, r.continues, once_given (bytes_eq (codes "--continue")) (flags words) continue_once)) in
+    let show_asked : t.shows ≡ shows words =
+    once_same t.shows (shows words) (omega (arith, r.shows, once_given (bytes_eq (codes "--show")) (flags words) show_once)) in
+    let same : ◌≡◌ {A = Flags} (asked t) (flags_of words) = ap₂ (λ (c s : Bool). record { continues = c; shows = s }) continue_asked show_asked in
     record {
       is = record {
         mode = sym r.operands ∙ only;
         known = r.known;
         once = each_once (flags words) r.known continue_once show_once;
       };
-      continue_asked = once_same t.continues (continues words) (omega (arith, r.continues, once_given (bytes_eq (codes "--continue")) (flags words) continue_once));
-      show_asked = once_same t.shows (shows words) (omega (arith, r.shows, once_given (bytes_eq (codes "--show")) (flags words) show_once));
+      flags_are = same;
     }
 
 -- the words of a mode line are read

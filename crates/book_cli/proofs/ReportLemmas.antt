@@ -11,6 +11,7 @@ use Rattle.book_cli.specs.view.Begun.{IsBegun}
 use Rattle.events.specs.Verdicts.{Verdict, Accepted, Redundant, Printed, Refused, verdict}
 use Rattle.terms.specs.Worlds.{World}
 use Rattle.terms.specs.Sound.{initial_world}
+use Rattle.book_cli.specs.declared.words.Flags.{Flags}
 use Rattle.book_cli.specs.Report.{Read, IsNext, all_lines, begin, after, is_refusal, goes_on, event_lines, turn_lines, end_lines, report_from, world_from, accepts, last_line}
 
 module _ (a b c : Option (List ℕ)) where
@@ -65,49 +66,49 @@ stops continues (Printed v) accepted e h = absurd (cc)
 stops continues (Refused why) accepted e h = ap (λ b. b || continues) (sym e) ∙ h
 
 -- what comes after an event's lines
-abbrev pub after_turn : Bool → Progress → Datum × ℕ → Read → List ℕ
-after_turn continues p e rest = if goes_on continues (verdict p.world e.0) then report_from continues (after p (verdict p.world e.0)) rest.0 rest.1 else []
+abbrev pub after_turn : Flags → Progress → Datum × ℕ → Read → List ℕ
+after_turn flags p e rest = if goes_on flags.continues (verdict p.world e.0) then report_from flags (after p (verdict p.world e.0)) rest.0 rest.1 else []
 
 -- where an event stands first
-module _ (continues : Bool) (p : Progress) (e : Datum × ℕ) (read rest : Read) (first : read ≡ (e ∷ rest.0, rest.1)) where
-  pub report_split : report_from continues p read.0 read.1 ≡ turn_lines continues p e ++ after_turn continues p e rest
+module _ (flags : Flags) (p : Progress) (e : Datum × ℕ) (read rest : Read) (first : read ≡ (e ∷ rest.0, rest.1)) where
+  pub report_split : report_from flags p read.0 read.1 ≡ turn_lines flags p e ++ after_turn flags p e rest
   report_split =
-      ap (λ (r : Read). report_from continues p r.0 r.1) first
-      ∙ by_test (all_lines (event_lines p e)) (last_line (after p (verdict p.world e.0))) (report_from continues (after p (verdict p.world e.0)) rest.0 rest.1) (goes_on continues (verdict p.world e.0))
+      ap (λ (r : Read). report_from flags p r.0 r.1) first
+      ∙ by_test (all_lines (event_lines flags p e)) (last_line (after p (verdict p.world e.0))) (report_from flags (after p (verdict p.world e.0)) rest.0 rest.1) (goes_on flags.continues (verdict p.world e.0))
     where
       by_test : (line last more : List ℕ) (b : Bool) → line ++ (if b then more else last) ≡ (line ++ (if b then [] else last)) ++ (if b then more else [])
       by_test line last more true = ap (λ x. x ++ more) (sym (append-nil line))
       by_test line last more false = sym (append-nil (line ++ last))
 
-module _ (continues : Bool) (p q : Progress) (e : Datum × ℕ) (accepted : Bool) (next : IsNext (verdict p.world e.0) p q accepted) where
-  pub goes_with : (accepted || continues) ≡ true → goes_on continues (verdict p.world e.0) ≡ true
-  goes_with = goes continues (verdict p.world e.0) accepted next.accepts
+module _ (flags : Flags) (p q : Progress) (e : Datum × ℕ) (accepted : Bool) (next : IsNext (verdict p.world e.0) p q accepted) where
+  pub goes_with : (accepted || flags.continues) ≡ true → goes_on flags.continues (verdict p.world e.0) ≡ true
+  goes_with = goes flags.continues (verdict p.world e.0) accepted next.accepts
 
-  pub stops_with : (accepted || continues) ≡ false → goes_on continues (verdict p.world e.0) ≡ false
-  stops_with = stops continues (verdict p.world e.0) accepted next.accepts
+  pub stops_with : (accepted || flags.continues) ≡ false → goes_on flags.continues (verdict p.world e.0) ≡ false
+  stops_with = stops flags.continues (verdict p.world e.0) accepted next.accepts
 
-  pub turn_goes : (accepted || continues) ≡ true → turn_lines continues p e ≡ all_lines (event_lines p e)
+  pub turn_goes : (accepted || flags.continues) ≡ true → turn_lines flags p e ≡ all_lines (event_lines flags p e)
   turn_goes h =
-      ap (λ b. all_lines (event_lines p e) ++ (if b then [] else last_line (after p (verdict p.world e.0)))) (goes_with h) ∙ append-nil (all_lines (event_lines p e))
+      ap (λ b. all_lines (event_lines flags p e) ++ (if b then [] else last_line (after p (verdict p.world e.0)))) (goes_with h) ∙ append-nil (all_lines (event_lines flags p e))
 
-  pub turn_stops : (accepted || continues) ≡ false → turn_lines continues p e ≡ all_lines (event_lines p e) ++ last_line q
+  pub turn_stops : (accepted || flags.continues) ≡ false → turn_lines flags p e ≡ all_lines (event_lines flags p e) ++ last_line q
   turn_stops h =
-      ap (λ b. all_lines (event_lines p e) ++ (if b then [] else last_line (after p (verdict p.world e.0)))) (stops_with h)
-      ∙ ap (λ (r : Progress). all_lines (event_lines p e) ++ last_line r) (sym next.progress)
+      ap (λ b. all_lines (event_lines flags p e) ++ (if b then [] else last_line (after p (verdict p.world e.0)))) (stops_with h)
+      ∙ ap (λ (r : Progress). all_lines (event_lines flags p e) ++ last_line r) (sym next.progress)
 
   -- where the event stands first
   module _ (read rest : Read) (first : read ≡ (e ∷ rest.0, rest.1)) where
-    pub report_goes : (accepted || continues) ≡ true → report_from continues p read.0 read.1 ≡ turn_lines continues p e ++ report_from continues q rest.0 rest.1
+    pub report_goes : (accepted || flags.continues) ≡ true → report_from flags p read.0 read.1 ≡ turn_lines flags p e ++ report_from flags q rest.0 rest.1
     report_goes h =
-        report_split continues p e read rest first
-        ∙ ap (λ b. turn_lines continues p e ++ (if b then report_from continues (after p (verdict p.world e.0)) rest.0 rest.1 else [])) (goes_with h)
-        ∙ ap (λ (r : Progress). turn_lines continues p e ++ report_from continues r rest.0 rest.1) (sym next.progress)
+        report_split flags p e read rest first
+        ∙ ap (λ b. turn_lines flags p e ++ (if b then report_from flags (after p (verdict p.world e.0)) rest.0 rest.1 else [])) (goes_with h)
+        ∙ ap (λ (r : Progress). turn_lines flags p e ++ report_from flags r rest.0 rest.1) (sym next.progress)
 
-    pub report_stops : (accepted || continues) ≡ false → report_from continues p read.0 read.1 ≡ turn_lines continues p e
+    pub report_stops : (accepted || flags.continues) ≡ false → report_from flags p read.0 read.1 ≡ turn_lines flags p e
     report_stops h =
-        report_split continues p e read rest first
-        ∙ ap (λ b. turn_lines continues p e ++ (if b then report_from continues (after p (verdict p.world e.0)) rest.0 rest.1 else [])) (stops_with h)
-        ∙ append-nil (turn_lines continues p e)
+        report_split flags p e read rest first
+        ∙ ap (λ b. turn_lines flags p e ++ (if b then report_from flags (after p (verdict p.world e.0)) rest.0 rest.1 else [])) (stops_with h)
+        ∙ append-nil (turn_lines flags p e)
 
     accepts_first : (es : List (Datum × ℕ)) (end : Option (Code × ℕ)) → accepts p (e ∷ es) end ≡ (if is_refusal (verdict p.world e.0) then false else accepts (after p (verdict p.world e.0)) es end)
     accepts_first es None = refl
@@ -135,19 +136,19 @@ module _ (continues : Bool) (p q : Progress) (e : Datum × ℕ) (accepted : Bool
         ap (λ (r : Read). accepts p r.0 r.1) first ∙ accepts_first rest.0 rest.1
         ∙ ap (λ b. if b then false else accepts (after p (verdict p.world e.0)) rest.0 rest.1) (refuses false h)
 
-    pub world_goes : (accepted || continues) ≡ true → world_from continues q rest.0 ≡ world_from continues p read.0
+    pub world_goes : (accepted || flags.continues) ≡ true → world_from flags q rest.0 ≡ world_from flags p read.0
     world_goes h =
-        sym (ap (λ (r : Read). world_from continues p r.0) first
-        ∙ ap (λ b. if b then world_from continues (after p (verdict p.world e.0)) rest.0 else p.world) (goes_with h)
-        ∙ ap (λ (r : Progress). world_from continues r rest.0) (sym next.progress))
+        sym (ap (λ (r : Read). world_from flags p r.0) first
+        ∙ ap (λ b. if b then world_from flags (after p (verdict p.world e.0)) rest.0 else p.world) (goes_with h)
+        ∙ ap (λ (r : Progress). world_from flags r rest.0) (sym next.progress))
 
-    pub world_stops : (accepted || continues) ≡ false → world_from continues p read.0 ≡ q.world
+    pub world_stops : (accepted || flags.continues) ≡ false → world_from flags p read.0 ≡ q.world
     world_stops h =
-        ap (λ (r : Read). world_from continues p r.0) first
-        ∙ ap (λ b. if b then world_from continues (after p (verdict p.world e.0)) rest.0 else p.world) (stops_with h)
+        ap (λ (r : Read). world_from flags p r.0) first
+        ∙ ap (λ b. if b then world_from flags (after p (verdict p.world e.0)) rest.0 else p.world) (stops_with h)
         ∙ sym (ap (λ (r : Progress). r.world) next.progress ∙ kept (verdict p.world e.0) (stops_with h))
       where
-        kept : (v : Verdict) → goes_on continues v ≡ false → (after p v).world ≡ p.world
+        kept : (v : Verdict) → goes_on flags.continues v ≡ false → (after p v).world ≡ p.world
         kept (Accepted w) k = absurd (cc)
         kept Redundant k = absurd (cc)
         kept (Printed v) k = absurd (cc)
@@ -186,12 +187,12 @@ module _ (all accepted : Bool) (before behind : Bool) where
       by_test false b h = refl
 
 -- where the events end
-module _ (continues : Bool) (p : Progress) (read : Read) (end : Option (Code × ℕ)) (last : read ≡ ([], end)) where
-  pub report_ends : report_from continues p read.0 read.1 ≡ end_lines p end
-  report_ends = ap (λ (r : Read). report_from continues p r.0 r.1) last
+module _ (flags : Flags) (p : Progress) (read : Read) (end : Option (Code × ℕ)) (last : read ≡ ([], end)) where
+  pub report_ends : report_from flags p read.0 read.1 ≡ end_lines p end
+  report_ends = ap (λ (r : Read). report_from flags p r.0 r.1) last
 
-  pub world_ends : world_from continues p read.0 ≡ p.world
-  world_ends = ap (λ (r : Read). world_from continues p r.0) last
+  pub world_ends : world_from flags p read.0 ≡ p.world
+  world_ends = ap (λ (r : Read). world_from flags p r.0) last
 
 pub accepts_end : (p : Progress) (read : Read) → read ≡ ([], None) → accepts p read.0 read.1 ≡ true
 accepts_end p read last = ap (λ (r : Read). accepts p r.0 r.1) last

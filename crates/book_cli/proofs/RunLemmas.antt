@@ -13,6 +13,7 @@ use Rattle.lisp_reader.specs.Grammar.{parse, book_of}
 use Rattle.lisp_reader.proofs.Ends.{goes_on}
 use Rattle.lisp_reader.specs.declared.limits.TheConstants.{MAX_BOOK}
 use Rattle.book_cli.specs.declared.progress.Progress.{Progress}
+use Rattle.book_cli.specs.declared.words.Flags.{Flags}
 use Rattle.terms.specs.Sound.{Sound}
 use Rattle.book_cli.specs.Report.{Read, accepts, accepts_all, report_of, world_made}
 use Rattle.book_cli.specs.Values.{PrintedValuesAreTrue}
@@ -62,26 +63,26 @@ pub front_second : (a b c : Option (List ℕ)) (p q : List ℕ) → Grows a b p 
 front_second a b c p q g h = begun_cut a b c q q [] (p ++ q) (record { written = p; grown = g; split = refl }) (sym (append-nil q)) h
 
 -- a book that was read whole and reported
-pub accepted_run : PrintedValuesAreTrue → (continues : Bool) (left left_after held held_after : Option (List ℕ)) (bytes : List ℕ) → IsWhole left left_after MAX_BOOK bytes → IsReported continues held held_after (parse false bytes) true → IsAcceptedRun continues left left_after held held_after
-accepted_run values continues left left_after held held_after bytes whole it =
+pub accepted_run : PrintedValuesAreTrue → (flags : Flags) (left left_after held held_after : Option (List ℕ)) (bytes : List ℕ) → IsWhole left left_after MAX_BOOK bytes → IsReported flags held held_after (parse false bytes) true → IsAcceptedRun flags left left_after held held_after
+accepted_run values flags left left_after held held_after bytes whole it =
     let same : book_of bytes ≡ parse false bytes = whole_is bytes whole.within in
     record {
       book = bytes;
       whole = whole;
-      written = subst (λ (r : Read). Grows held held_after (report_of continues r)) (sym same) it.written;
+      written = subst (λ (r : Read). Grows held held_after (report_of flags r)) (sym same) it.written;
       none_refused = ap accepts_all same ∙ it.accepts;
-      sound = subst (λ (r : Read). Sound (world_made continues r)) (sym same) it.sound;
-      values = values continues (book_of bytes);
+      sound = subst (λ (r : Read). Sound (world_made flags r)) (sym same) it.sound;
+      values = values flags (book_of bytes);
     }
 
 -- what was read of a book and reported, with a refused line
-pub refused_run : PrintedValuesAreTrue → (continues : Bool) (left held held_after : Option (List ℕ)) (read : Read) → IfSome left (λ bytes. book_of bytes ≡ read) → IsReported continues held held_after read false → IsRefusedRun continues left held held_after
-refused_run values continues left held held_after read of_book it =
+pub refused_run : PrintedValuesAreTrue → (flags : Flags) (left held held_after : Option (List ℕ)) (read : Read) → IfSome left (λ bytes. book_of bytes ≡ read) → IsReported flags held held_after read false → IsRefusedRun flags left held held_after
+refused_run values flags left held held_after read of_book it =
     record {
       read = read;
       of_book = of_book;
       written = it.written;
       one_refused = it.accepts;
       sound = it.sound;
-      values = values continues read;
+      values = values flags read;
     }

@@ -2,6 +2,7 @@
 use Rattle.std.specs.Prelude.{◌≡◌, ◌≤◌, ◌==◌, ◌||◌, ℕ, Bool, true, false, not, List, [], ◌∷◌, ◌++◌, codes, ⊤}
 use Rattle.std.specs.List.{filter, list_all, list_any, count_by, before_first, after_first}
 use Rattle.std.specs.Str.{bytes_eq}
+use Rattle.book_cli.specs.declared.words.Flags.{Flags}
 use Rattle.book_cli.specs.declared.words.WordsError.{WordsError}
 use Rattle.book_cli.specs.declared.words.WordsError.TheVariants.{Usage, Memory}
 
@@ -40,6 +41,10 @@ continues words = list_any (bytes_eq (codes "--continue")) (flags words)
 -- the line has the flag `--show`
 abbrev pub shows : List (List ℕ) → Bool
 shows words = list_any (bytes_eq (codes "--show")) (flags words)
+
+-- what the line asks for
+abbrev pub flags_of : List (List ℕ) → Flags
+flags_of words = record { continues = continues words; shows = shows words }
 
 -- words are refused only where they are no mode line; running out of memory is free
 abbrev pub IsRefusalOf : List (List ℕ) → WordsError → Type 0

@@ -7,6 +7,7 @@ use Rattle.terms.specs.Sound.{Sound}
 use Rattle.book_cli.specs.Report.{Read, report_of, accepts_all, world_made, report, is_accepted, world_of}
 use Rattle.book_cli.specs.Values.{ValuesAreTrue}
 use Rattle.lisp_reader.specs.declared.limits.TheConstants.{MAX_BOOK}
+use Rattle.book_cli.specs.declared.words.Flags.{Flags}
 use Rattle.book_cli.specs.declared.status.Status.{Status}
 use Rattle.book_cli.specs.declared.status.Status.TheVariants.{Accepted, Refused, Usage, ReadFault, WriteFault, Memory}
 use Rattle.book_cli.specs.declared.stop.Stop.{Stop}
@@ -59,30 +60,30 @@ pub record IsUntouched (told_before told_after : Option (List ℕ)) (faults_befo
   pub faults : faults_after ≡ faults_before
 
 -- what was read was reported whole, and accepted or not; its world is sound
-pub record IsReported (continues : Bool) (before after : Option (List ℕ)) (read : Read) (accepted : Bool) : Type 0 where
-  pub written : Grows before after (report_of continues read)
+pub record IsReported (flags : Flags) (before after : Option (List ℕ)) (read : Read) (accepted : Bool) : Type 0 where
+  pub written : Grows before after (report_of flags read)
   pub accepts : accepts_all read ≡ accepted
-  pub sound : Sound (world_made continues read)
+  pub sound : Sound (world_made flags read)
 
 -- The whole book was read, where it is told it was this one and nothing of it is left, its report was written, none of its events is refused,
 -- its world is sound, and each value that it prints is the model's.
-pub record IsAcceptedRun (continues : Bool) (left left_after held held_after : Option (List ℕ)) : Type 0 where
+pub record IsAcceptedRun (flags : Flags) (left left_after held held_after : Option (List ℕ)) : Type 0 where
   pub book : List ℕ
   pub whole : IsWhole left left_after MAX_BOOK book
-  pub written : Grows held held_after (report continues book)
+  pub written : Grows held held_after (report flags book)
   pub none_refused : is_accepted book ≡ true
-  pub sound : Sound (world_of continues book)
-  pub values : ValuesAreTrue continues (book_of book)
+  pub sound : Sound (world_of flags book)
+  pub values : ValuesAreTrue flags (book_of book)
 
 -- What was read is the book's, where the book is told; its whole report was written, with a refused line, the world that it made is sound, and
 -- each value that it prints is the model's.
-pub record IsRefusedRun (continues : Bool) (left held held_after : Option (List ℕ)) : Type 0 where
+pub record IsRefusedRun (flags : Flags) (left held held_after : Option (List ℕ)) : Type 0 where
   pub read : Read
   pub of_book : IfSome left (λ book. book_of book ≡ read)
-  pub written : Grows held held_after (report_of continues read)
+  pub written : Grows held held_after (report_of flags read)
   pub one_refused : accepts_all read ≡ false
-  pub sound : Sound (world_made continues read)
-  pub values : ValuesAreTrue continues read
+  pub sound : Sound (world_made flags read)
+  pub values : ValuesAreTrue flags read
 
 -- how a run of a mode line ends without a fault: accepted where the book is, else refused; or out of memory
 abbrev pub IsSureEnd : (accepted : Bool) → Status → Type 0

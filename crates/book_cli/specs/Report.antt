@@ -9,8 +9,10 @@ use Rattle.terms.specs.Worlds.{World}
 use Rattle.terms.specs.Sound.{initial_world}
 use Rattle.worlds.specs.Entries.{further_theorems}
 use Rattle.book_cli.specs.declared.progress.Progress.{Progress}
+use Rattle.book_cli.specs.declared.words.Flags.{Flags}
 use Rattle.events.specs.declared.refusal.Refusal.TheVariants.{Coded}
 use Rattle.events.specs.Lines.{ok_line, redundant_line, value_line, refused_line, refused_lines}
+use Rattle.events.specs.Shown.{shown_lines}
 use Rattle.events.specs.Verdicts.{Verdict, Accepted, Redundant, Printed, Refused, verdict}
 
 -- forms with the places of their first bytes, and the first fault with its place, or the end
@@ -52,16 +54,16 @@ all_lines (line ∷ lines) = line ++ all_lines lines
 abbrev pub last_line : Progress → List ℕ
 last_line p = codes "accepted " ++ (decimal p.counted ++ (codes " events " ++ (decimal (further_theorems p.world) ++ codes " theorems\n")))
 
--- the lines of a form, by its verdict and its index
-abbrev pub verdict_lines : Verdict → Datum × ℕ → ℕ → List (List ℕ)
-verdict_lines (Accepted next) e index = ok_line e.0 ∷ []
-verdict_lines Redundant e index = redundant_line e.0 ∷ []
-verdict_lines (Printed v) e index = value_line v ∷ []
-verdict_lines (Refused why) e index = refused_lines index why e.1
+-- the lines of a form, by its verdict in this world and its index; what an accepted one makes may be asked for
+abbrev pub verdict_lines : Flags → World → Verdict → Datum × ℕ → ℕ → List (List ℕ)
+verdict_lines flags W (Accepted next) e index = ok_line e.0 ∷ shown_lines flags.shows W e.0
+verdict_lines flags W Redundant e index = redundant_line e.0 ∷ []
+verdict_lines flags W (Printed v) e index = value_line v ∷ []
+verdict_lines flags W (Refused why) e index = refused_lines index why e.1
 
 -- the lines of an event
-abbrev pub event_lines : Progress → Datum × ℕ → List (List ℕ)
-event_lines p e = verdict_lines (verdict p.world e.0) e (p.handled + 1)
+abbrev pub event_lines : Flags → Progress → Datum × ℕ → List (List ℕ)
+event_lines flags p e = verdict_lines flags p.world (verdict p.world e.0) e (p.handled + 1)
 
 -- the lines at the end of what could be read
 abbrev pub end_lines : Progress → Option (Code × ℕ) → List ℕ
@@ -69,21 +71,21 @@ end_lines p None = last_line p
 end_lines p (Some fault) = refused_line (p.handled + 1) (Coded fault.0 Absent) fault.1 ++ last_line p
 
 -- the report of these forms, from some progress on; it is asked for one that goes on after a refusal, or ends with it
-abbrev pub report_from : Bool → Progress → List (Datum × ℕ) → Option (Code × ℕ) → List ℕ
-report_from continues p [] end = end_lines p end
-report_from continues p (e ∷ es) end =
-    all_lines (event_lines p e)
-    ++ (if goes_on continues (verdict p.world e.0) then report_from continues (after p (verdict p.world e.0)) es end else last_line (after p (verdict p.world e.0)))
+abbrev pub report_from : Flags → Progress → List (Datum × ℕ) → Option (Code × ℕ) → List ℕ
+report_from flags p [] end = end_lines p end
+report_from flags p (e ∷ es) end =
+    all_lines (event_lines flags p e)
+    ++ (if goes_on flags.continues (verdict p.world e.0) then report_from flags (after p (verdict p.world e.0)) es end else last_line (after p (verdict p.world e.0)))
 
 -- the lines of an event, with the last line where the run ends with it
-abbrev pub turn_lines : Bool → Progress → Datum × ℕ → List ℕ
-turn_lines continues p e =
-    all_lines (event_lines p e) ++ (if goes_on continues (verdict p.world e.0) then [] else last_line (after p (verdict p.world e.0)))
+abbrev pub turn_lines : Flags → Progress → Datum × ℕ → List ℕ
+turn_lines flags p e =
+    all_lines (event_lines flags p e) ++ (if goes_on flags.continues (verdict p.world e.0) then [] else last_line (after p (verdict p.world e.0)))
 
 -- the world that the forms make
-abbrev pub world_from : Bool → Progress → List (Datum × ℕ) → World
-world_from continues p [] = p.world
-world_from continues p (e ∷ es) = if goes_on continues (verdict p.world e.0) then world_from continues (after p (verdict p.world e.0)) es else p.world
+abbrev pub world_from : Flags → Progress → List (Datum × ℕ) → World
+world_from flags p [] = p.world
+world_from flags p (e ∷ es) = if goes_on flags.continues (verdict p.world e.0) then world_from flags (after p (verdict p.world e.0)) es else p.world
 
 -- no form is refused
 abbrev pub all_accepted : Progress → List (Datum × ℕ) → Bool
@@ -96,24 +98,24 @@ accepts p es None = all_accepted p es
 accepts p es (Some fault) = false
 
 -- the report of what was read
-abbrev pub report_of : Bool → Read → List ℕ
-report_of continues read = report_from continues begin read.0 read.1
+abbrev pub report_of : Flags → Read → List ℕ
+report_of flags read = report_from flags begin read.0 read.1
 
 -- it was read to its end, and none of its events is refused
 abbrev pub accepts_all : Read → Bool
 accepts_all read = accepts begin read.0 read.1
 
-abbrev pub world_made : Bool → Read → World
-world_made continues read = world_from continues begin read.0
+abbrev pub world_made : Flags → Read → World
+world_made flags read = world_from flags begin read.0
 
 -- the report of a book's bytes
-abbrev pub report : Bool → List ℕ → List ℕ
-report continues book = report_of continues (book_of book)
+abbrev pub report : Flags → List ℕ → List ℕ
+report flags book = report_of flags (book_of book)
 
 -- the book is read to its end, and none of its events is refused
 abbrev pub is_accepted : List ℕ → Bool
 is_accepted book = accepts_all (book_of book)
 
 -- the world of a book's bytes
-abbrev pub world_of : Bool → List ℕ → World
-world_of continues book = world_made continues (book_of book)
+abbrev pub world_of : Flags → List ℕ → World
+world_of flags book = world_made flags (book_of book)

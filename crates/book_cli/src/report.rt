@@ -13,6 +13,7 @@ ghost use Rattle.book_cli.specs.Report.{all_lines, IsNext, event_lines, turn_lin
 
 use crate::progress::Progress;
 use crate::stop::Stop;
+use crate::words::Flags;
 use events::{Refusal, StepAnswer, refused_text, step};
 use lisp_data::{Code, Detail};
 use lisp_reader::{FormReader, Located, ReadError};
@@ -43,19 +44,20 @@ fn handle<K: Sink>(
     alloc: Global,
     progress: &mut Progress,
     located: &Located,
+    flags: Flags,
     out: &mut K,
 ) -> Result<bool, Stop>
     requires proper { IsProper located.now.form }
     requires few { progress.old.handled < 2 ^ 64 - 1 }
     requires counted { progress.old.counted ≤ progress.old.handled }
-    ensures written { OnOk result (Grows (K.held out.old) (K.held out.new) (all_lines (event_lines progress.old (form_of located.now.form, located.now.place)))) }
-    ensures cut { OnErr result (GrowsByFront (K.held out.old) (K.held out.new) (all_lines (event_lines progress.old (form_of located.now.form, located.now.place)))) }
+    ensures written { OnOk result (Grows (K.held out.old) (K.held out.new) (all_lines (event_lines flags progress.old (form_of located.now.form, located.now.place)))) }
+    ensures cut { OnErr result (GrowsByFront (K.held out.old) (K.held out.new) (all_lines (event_lines flags progress.old (form_of located.now.form, located.now.place)))) }
     ensures next { IfOk result (IsNext (verdict progress.old.world (form_of located.now.form)) progress.old progress.new) }
     ensures cause { IsErrOf result Stop.WriteFault → Rose (K.faults out.old) (K.faults out.new) }
     ensures later { K.faults out.old ≤ K.faults out.new }
 {
     let index = progress.handled + 1;
-    match step(alloc, &progress.world, located, index, false)? {
+    match step(alloc, &progress.world, located, index, flags.shows)? {
         StepAnswer::Accepted(next, lines, _proofs) => {
             write_lines(lines.as_slice(), out)?;
             progress.world = next;
@@ -116,20 +118,20 @@ fn take_event<K: Sink>(
     alloc: Global,
     progress: &mut Progress,
     located: Located,
-    continues: bool,
+    flags: Flags,
     out: &mut K,
 ) -> Result<bool, Stop>
     requires proper { IsProper located.form }
     requires few { progress.old.handled < 2 ^ 64 - 1 }
     requires counted { progress.old.counted ≤ progress.old.handled }
-    ensures written { OnOk result (Grows (K.held out.old) (K.held out.new) (turn_lines continues progress.old (form_of located.form, located.place))) }
-    ensures cut { OnErr result (GrowsByFront (K.held out.old) (K.held out.new) (turn_lines continues progress.old (form_of located.form, located.place))) }
+    ensures written { OnOk result (Grows (K.held out.old) (K.held out.new) (turn_lines flags progress.old (form_of located.form, located.place))) }
+    ensures cut { OnErr result (GrowsByFront (K.held out.old) (K.held out.new) (turn_lines flags progress.old (form_of located.form, located.place))) }
     ensures next { IfOk result (IsNext (verdict progress.old.world (form_of located.form)) progress.old progress.new) }
     ensures cause { IsErrOf result Stop.WriteFault → Rose (K.faults out.old) (K.faults out.new) }
     ensures later { K.faults out.old ≤ K.faults out.new }
 {
-    let accepted = handle(alloc, progress, &located, out)?;
-    if goes_on(accepted, continues) {
+    let accepted = handle(alloc, progress, &located, flags, out)?;
+    if goes_on(accepted, flags.continues) {
         return Ok(accepted);
     }
     write_last(alloc, progress, out)?;
@@ -183,14 +185,14 @@ fn write_fault<K: Sink>(
 pub(crate) fn write_report<K: Sink>(
     alloc: Global,
     reader: &mut FormReader<'_>,
-    continues: bool,
+    flags: Flags,
     out: &mut K,
 ) -> Result<bool, Stop>
     requires { length reader.old.0 ≤ MAX_FORMS }
-    ensures written { OnOk result (Grows (K.held out.old) (K.held out.new) (report_of continues reader.old)) }
-    ensures cut { OnErr result (GrowsByFront (K.held out.old) (K.held out.new) (report_of continues reader.old)) }
+    ensures written { OnOk result (Grows (K.held out.old) (K.held out.new) (report_of flags reader.old)) }
+    ensures cut { OnErr result (GrowsByFront (K.held out.old) (K.held out.new) (report_of flags reader.old)) }
     ensures accepted { IfOk result (λ all. all ≡ accepts_all reader.old) }
-    ensures sound { OnOk result (Sound (world_made continues reader.old)) }
+    ensures sound { OnOk result (Sound (world_made flags reader.old)) }
     ensures cause { IsErrOf result Stop.WriteFault → Rose (K.faults out.old) (K.faults out.new) }
     ensures later { K.faults out.old ≤ K.faults out.new }
 {
@@ -203,9 +205,9 @@ pub(crate) fn write_report<K: Sink>(
     'events: loop {
         match reader.next(alloc) {
             Ok(Some(located)) => {
-                let accepted = take_event(alloc, &mut progress, located, continues, out)?;
+                let accepted = take_event(alloc, &mut progress, located, flags, out)?;
                 all = still_all(all, accepted);
-                if !goes_on(accepted, continues) {
+                if !goes_on(accepted, flags.continues) {
                     progress.world.soundness();
                     return Ok(false);
                 }

@@ -3,7 +3,7 @@
 ghost use Rattle.std.specs.Prelude.{◌≡◌, IfOk, IfErr, IsUtf8, map, option_map};
 ghost use Rattle.std.specs.List.{All};
 ghost use Rattle.clap.specs.Words.{app_of, found_of, kind_of, rows_of};
-ghost use Rattle.book_cli.specs.CommandLines.{IsModeLine, IsRefusalOf, continues, shows};
+ghost use Rattle.book_cli.specs.CommandLines.{IsModeLine, IsRefusalOf, flags_of};
 ghost use Rattle.book_cli.specs.view.CommandMatches.{HasFlags, derive_app, is_check, line_in};
 
 use clap::error::ErrorKind;
@@ -12,9 +12,9 @@ use lists::{Seq, Text};
 use std::alloc::{AllocError, AllocFailed, Global};
 use std::io;
 
-/// What a command line asks for: that a book is checked.
+/// What a command line asks for, where a book is checked.
 #[derive(Clone, Copy, Debug, PartialEq, Eq)]
-pub(crate) struct ModeLine {
+pub(crate) struct Flags {
     /// The events after a refused one are handled too.
     pub(crate) continues: bool,
     /// What the events make is shown.
@@ -109,14 +109,14 @@ fn is_check(mode: Option<&str>, count: Option<&str>) -> bool
     }
 }
 
-/// The mode line that clap's matches give.
-fn line_of(matches: &ArgMatches<'_>) -> Option<ModeLine>
-    ensures { (flags : ModeLine) → HasFlags (rows_of (found_of matches.now)) flags → result ≡ line_in (rows_of (found_of matches.now)) flags }
+/// The flags of the mode line that clap's matches give.
+fn line_of(matches: &ArgMatches<'_>) -> Option<Flags>
+    ensures { (flags : Flags) → HasFlags (rows_of (found_of matches.now)) flags → result ≡ line_in (rows_of (found_of matches.now)) flags }
 {
     if !is_check(matches.get_str("MODE"), matches.get_str("COUNT")) {
         return None;
     }
-    Some(ModeLine {
+    Some(Flags {
         continues: matches.get_flag("continue"),
         shows: matches.get_flag("show"),
     })
@@ -133,10 +133,9 @@ fn words_error(error: &Error) -> WordsError
 }
 
 /// What the words of a command ask for, without the program's name (docs/REPORT.md).
-pub(crate) fn read_words(alloc: Global, words: &Seq<Text>) -> Result<ModeLine, WordsError>
+pub(crate) fn read_words(alloc: Global, words: &Seq<Text>) -> Result<Flags, WordsError>
     ensures mode { IfOk result (λ line. IsModeLine words.now) }
-    ensures continues { IfOk result (λ line. line.continues ≡ continues words.now) }
-    ensures shows { IfOk result (λ line. line.shows ≡ shows words.now) }
+    ensures flags { IfOk result (λ flags. flags ≡ flags_of words.now) }
     ensures refusal { IfErr result (IsRefusalOf words.now) }
 {
     let texts = texts_of(alloc, words)?;

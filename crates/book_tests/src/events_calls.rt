@@ -1,7 +1,6 @@
-//! A theorem with its proof, and one whose reduction is stuck; values, and function variables in them, which no book can declare so far.
+//! A theorem with its proof, one whose reduction is stuck, and a value.
 
 use events::{Lines, StepAnswer, step};
-use lisp_data::Symbol;
 use lisp_reader::FormReader;
 use std::alloc::Global;
 use std::process::Abort;
@@ -75,32 +74,11 @@ fn printed_lines(alloc: Global, world: &World, book: &str) -> Result<Lines, Fail
     }
 }
 
-/// The initial world with a function variable of one argument.
-fn with_variable(alloc: Global) -> Result<World, Fail> {
-    let name = Symbol::new(alloc, "?f")?;
-    match World::initial(alloc)?.with_variable(alloc, name, 1) {
-        Ok(world) => Ok(world),
-        Err(_) => Err(Fail::from("no variable")),
-    }
-}
-
 #[test]
-fn reaches_function_variables(rt: HostRuntime) -> Result<(), Fail> {
+fn prints_a_value(rt: HostRuntime) -> Result<(), Fail> {
     let alloc = rt.alloc();
-    let world = with_variable(alloc)?;
-    let lines = refused_lines(alloc, &world, "(value-triple (cons 1 (?f 2)))")?;
-    assert_line(&rt, &lines, "refused 1 25 HasFunctionVariables ?F at 0\n");
-    let book = "(value-triple (?f (* 170141183460469231731687303715884105727 2)))";
-    let lines = refused_lines(alloc, &world, book)?;
-    assert_line(&rt, &lines, "refused 1 36 EvalTooWide at 0\n");
-    Ok(())
-}
-
-#[test]
-fn passes_by_function_variables(rt: HostRuntime) -> Result<(), Fail> {
-    let alloc = rt.alloc();
-    let world = with_variable(alloc)?;
-    let lines = printed_lines(alloc, &world, "(value-triple (if t '(a . b) (?f 2)))")?;
+    let world = World::initial(alloc)?;
+    let lines = printed_lines(alloc, &world, "(value-triple (cons 'a 'b))")?;
     assert_line(&rt, &lines, "value (A . B)\n");
     Ok(())
 }

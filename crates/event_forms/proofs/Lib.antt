@@ -1,2 +1,3 @@
 pub mod DeclarationLemmas
 pub mod KeyLemmas
+pub mod PairLemmas

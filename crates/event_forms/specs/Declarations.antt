@@ -3,14 +3,12 @@ use Rattle.std.specs.Prelude.{ℕ, Bool, ◌||◌, if◌then◌else◌, codes, i
 use Rattle.std.specs.List.{list_all}
 use Rattle.lisp_data.specs.Datum.{Datum}
 use Rattle.term_forms.specs.Translation.{Outcome, and_then}
-use Rattle.proof_texts.specs.Items.{items_of, is_word, symbol_of, text_of}
+use Rattle.proof_texts.specs.Items.{items_of, is_word, text_of}
+use Rattle.event_forms.specs.Places.{is_symbol}
 use Rattle.event_forms.specs.Refused.{bad_part}
 use Rattle.event_forms.specs.Keys.{keys, value_of}
 use Rattle.event_forms.specs.declared.keys.Keyed.TheVariants.{Function}
 use Rattle.event_forms.specs.declared.keys.SeenKeys.{SeenKeys}
-
-abbrev pub is_symbol : Datum → Bool
-is_symbol form = is_some (symbol_of form)
 
 -- `(xargs key value ..)`, `(ignore x ..)` or `(ignorable x ..)`, after keys that were seen
 abbrev pub declared : SeenKeys → Option (List Datum) → Outcome (SeenKeys)

@@ -1,6 +1,6 @@
 -- Keys with their values. A key is a keyword, and its value stands behind it.
 use Rattle.std.specs.Prelude.{ℕ, Bool, not, if◌then◌else◌, bytes_eq, codes, List, [], ◌∷◌, ◌++◌, Option, Some, None, Ok}
-use Rattle.std.specs.List.{list_any}
+use Rattle.std.specs.List.{list_all}
 use Rattle.lisp_data.specs.Values.{Name}
 use Rattle.lisp_data.specs.Datum.{Datum}
 use Rattle.term_forms.specs.Names.{begins_with}
@@ -8,33 +8,45 @@ use Rattle.terms.specs.Worlds.{is_in}
 use Rattle.term_forms.specs.Translation.{Outcome, and_then}
 use Rattle.proof_texts.specs.Items.{items_of, is_word, symbol_of}
 use Rattle.event_forms.specs.Clauses.{further, named_with}
+use Rattle.event_forms.specs.Places.{is_symbol}
 use Rattle.event_forms.specs.Refused.{bad_part, bad_key, unknown_key}
 use Rattle.event_forms.specs.declared.clauses.ClauseKind.TheVariants.{Proof, Hints}
 use Rattle.event_forms.specs.declared.keys.Keyed.{Keyed}
-use Rattle.event_forms.specs.declared.keys.Keyed.TheVariants.{Function, Theorem, Book}
+use Rattle.event_forms.specs.declared.keys.Keyed.TheVariants.{Function, Theorem, Isomorphism, FunctionInstance, TheoremInstance, Book}
 use Rattle.event_forms.specs.declared.keys.SeenKeys.{SeenKeys}
 
 -- the keys that an event or a declaration takes
 unfoldable pub known_keys : Keyed → List Name
 known_keys Function = codes ":GUARD" ∷ codes ":VERIFY-GUARDS" ∷ codes ":GUARD-HINTS" ∷ codes ":MEASURE" ∷ codes ":HOW" ∷ codes ":PROOF" ∷ []
-known_keys Theorem = codes ":RULE-CLASSES" ∷ codes ":HOW" ∷ codes ":PROOF" ∷ []
+known_keys Theorem = codes ":RULE-CLASSES" ∷ codes ":ASSUMING" ∷ codes ":HOW" ∷ codes ":PROOF" ∷ []
+known_keys Isomorphism = codes ":HOW" ∷ codes ":PROOF" ∷ []
+known_keys FunctionInstance = codes ":VERIFY-GUARDS" ∷ []
+known_keys TheoremInstance = codes ":RULE-CLASSES" ∷ []
 known_keys Book = codes ":DIR" ∷ []
 
 -- the part that is wrong where no keyword stands in a key's place
 abbrev pub part_word : Keyed → List ℕ
 part_word Function = codes "declare"
 part_word Theorem = codes "arguments"
+part_word Isomorphism = codes "arguments"
+part_word FunctionInstance = codes "arguments"
+part_word TheoremInstance = codes "arguments"
 part_word Book = codes "arguments"
 
--- The conditions that the value of a key names, behind those that were named before; nothing where it has another shape or names one again. A
--- function's proofs and hints are clauses, each of a condition. A theorem has one condition, which its proof names and so do its hints, a list of
--- steps. The directory of a book is the system's, and another key may have any value.
+-- The conditions that the value of a key names, behind those that were named before; nothing where it has another shape or names one again. The
+-- proofs and hints of a function and of an isomorphism are clauses, each of a condition. A theorem has one condition, which its proof names and
+-- so do its hints, a list of steps; what it assumes is a list of names. An instance has no condition. The directory of a book is the system's, and
+-- another key may have any value.
 abbrev pub with_goal : List Name → Option (List Datum) → Option (List Name)
 with_goal named None = None
 with_goal named (Some steps) = further named (Some (codes ":GOAL"))
 
-abbrev pub in_function : List Name → Name → Datum → Option (List Name)
-in_function named k v =
+abbrev pub if_names : List Name → Option (List Datum) → Option (List Name)
+if_names named None = None
+if_names named (Some forms) = if list_all is_symbol forms then Some named else None
+
+abbrev pub in_clauses : List Name → Name → Datum → Option (List Name)
+in_clauses named k v =
     if bytes_eq k (codes ":PROOF") then named_with Proof named (items_of v)
     else if bytes_eq k (codes ":HOW") then named_with Hints named (items_of v)
     else Some named
@@ -43,11 +55,15 @@ abbrev pub in_theorem : List Name → Name → Datum → Option (List Name)
 in_theorem named k v =
     if bytes_eq k (codes ":PROOF") then further named (Some (codes ":GOAL"))
     else if bytes_eq k (codes ":HOW") then with_goal named (items_of v)
+    else if bytes_eq k (codes ":ASSUMING") then if_names named (items_of v)
     else Some named
 
 abbrev pub named_by : Keyed → List Name → Name → Datum → Option (List Name)
-named_by Function named k v = in_function named k v
+named_by Function named k v = in_clauses named k v
 named_by Theorem named k v = in_theorem named k v
+named_by Isomorphism named k v = in_clauses named k v
+named_by FunctionInstance named k v = Some named
+named_by TheoremInstance named k v = Some named
 named_by Book named k v = if is_word (codes ":SYSTEM") v then Some named else None
 
 -- a keyword begins with a colon
@@ -89,17 +105,3 @@ abbrev pub value_of : List ℕ → List Datum → Option Datum
 value_of key [] = None
 value_of key (k ∷ []) = None
 value_of key (k ∷ v ∷ parts) = if is_word key k then Some v else value_of key parts
-
--- a key of a theorem that isn't there yet
-abbrev pub is_unbuilt : Datum → Bool
-is_unbuilt k = is_word (codes ":ASSUMING") k
-
--- the forms in keys' places: keys and values stand in turn, a key first
-abbrev pub key_places : List Datum → List Datum
-key_places [] = []
-key_places (k ∷ []) = k ∷ []
-key_places (k ∷ v ∷ parts) = k ∷ key_places parts
-
--- one of them stands in a key's place
-abbrev pub has_unbuilt : List Datum → Bool
-has_unbuilt parts = list_any is_unbuilt (key_places parts)

@@ -1,16 +1,20 @@
 -- The shapes of events.
-use Rattle.std.specs.Prelude.{ℕ, Bool, false, if◌then◌else◌, bytes_eq, codes, List, [], ◌∷◌, Option, Some, None, Ok}
+use Rattle.std.specs.Prelude.{ℕ, if◌then◌else◌, bytes_eq, codes, List, [], ◌∷◌, Option, Some, None, Ok}
 use Rattle.lisp_data.specs.Values.{Name}
 use Rattle.lisp_data.specs.Datum.{Datum}
 use Rattle.terms.specs.Evaluation.{then_with}
 use Rattle.terms.specs.Worlds.{is_in}
 use Rattle.term_forms.specs.Translation.{Outcome, and_then, map_outcome}
-use Rattle.proof_texts.specs.Items.{items_of, is_word, symbol_of, text_of}
-use Rattle.event_forms.specs.Refused.{not_an_event, bad_part, unknown_book, or_refused}
-use Rattle.event_forms.specs.Keys.{no_keys, keys, value_of, has_unbuilt}
+use Rattle.proof_texts.specs.Items.{items_of, is_word}
+use Rattle.event_forms.specs.Refused.{not_an_event, bad_part, unknown_book}
+use Rattle.event_forms.specs.Places.{name_of, formals_of, string_of}
+use Rattle.event_forms.specs.Keys.{no_keys, keys, value_of}
 use Rattle.event_forms.specs.Clauses.{clauses_in, hints_in, given_items}
 use Rattle.event_forms.specs.Declarations.{body_of, declared_value}
-use Rattle.event_forms.specs.declared.keys.Keyed.TheVariants.{Theorem, Book}
+use Rattle.event_forms.specs.Instances.{InstanceParts, instance_parts}
+use Rattle.event_forms.specs.Isomorphisms.{IsoParts, iso_of}
+use Rattle.event_forms.specs.SecondOrder.{VariableParts, SpecificationParts, variable_parts, specification_parts}
+use Rattle.event_forms.specs.declared.keys.Keyed.TheVariants.{Theorem, FunctionInstance, TheoremInstance, Book}
 
 -- A function's parts: its name, its formals, its body, its measure, if one is given, and the proofs and the hints of its
 -- conditions by their names.
@@ -22,10 +26,11 @@ pub record FunctionParts : Type 0 where
   pub proofs : List (Name × Datum)
   pub hows : List (Name × List Datum)
 
--- A theorem's parts: its name, its formula, its proof and its hint steps, if it has them.
+-- A theorem's parts: its name, its formula, the names of the specifications that it assumes, its proof and its hint steps, if it has them.
 pub record TheoremParts : Type 0 where
   pub name : Name
   pub formula : Datum
+  pub assumed : List Datum
   pub proof : Option Datum
   pub how : Option (List Datum)
 
@@ -35,6 +40,12 @@ pub data Event : Type 0 where
   IncludeBook : (book : List ℕ) → Event
   Defun : (function : FunctionParts) → Event
   Defthm : (theorem : TheoremParts) → Event
+  Defiso : (iso : IsoParts) → Event
+  Defun2 : (function : FunctionParts) → Event
+  Defunvar : (variable : VariableParts) → Event
+  DefunSk2 : (specification : SpecificationParts) → Event
+  DefunInst : (instance : InstanceParts) → Event
+  DefthmInst : (instance : InstanceParts) → Event
   ValueTriple : (form : Datum) → Event
 
 -- the books that may be included
@@ -42,10 +53,6 @@ unfoldable pub books : List (List ℕ)
 books =
     codes "kestrel/soft/top" ∷ codes "kestrel/apt/top" ∷ codes "kestrel/apt/restrict" ∷ codes "kestrel/apt/isodata"
     ∷ codes "kestrel/apt/tailrec" ∷ codes "kestrel/apt/schemalg" ∷ codes "kestrel/apt/solve" ∷ []
-
--- a string in a place where one has to stand
-abbrev pub string_of : Datum → Outcome (List ℕ)
-string_of form = or_refused (bad_part (codes "arguments")) (text_of form)
 
 -- the package of every book
 abbrev pub only_package : Datum → Outcome (Unit {0})
@@ -63,12 +70,6 @@ include_book [] = bad_part (codes "arguments")
 include_book (p ∷ parts) =
     and_then (string_of p) (λ s. if is_in books s then map_outcome (λ seen. IncludeBook s) (keys Book no_keys parts) else unknown_book s)
 
-abbrev pub name_of : Datum → Outcome Name
-name_of form = or_refused (bad_part (codes "name")) (symbol_of form)
-
-abbrev pub formals_of : Datum → Outcome (List Datum)
-formals_of form = or_refused (bad_part (codes "formals")) (items_of form)
-
 -- a function of these formals and this body, by its parts behind the formals
 abbrev pub function_parts : Name → List Datum → Datum → List Datum → Datum → FunctionParts
 function_parts f xs p ps body = record {
@@ -80,21 +81,31 @@ function_parts f xs p ps body = record {
   hows = hints_in (given_items (declared_value (codes ":HOW") p ps));
 }
 
--- `(defun f (x ..) part .. body)`, from the formals on
-abbrev pub defun_after : Name → List Datum → Outcome Event
-defun_after f [] = bad_part (codes "arguments")
-defun_after f (xs ∷ []) = and_then (formals_of xs) (λ xs. bad_part (codes "arguments"))
-defun_after f (xs ∷ p ∷ ps) = and_then (formals_of xs) (λ xs. map_outcome (λ body. Defun (function_parts f xs p ps body)) (body_of no_keys p ps))
+-- `(x ..) part .. body`
+abbrev pub formals_after : Name → List Datum → Outcome FunctionParts
+formals_after f [] = bad_part (codes "arguments")
+formals_after f (xs ∷ []) = and_then (formals_of xs) (λ xs. bad_part (codes "arguments"))
+formals_after f (xs ∷ p ∷ ps) = and_then (formals_of xs) (λ xs. map_outcome (function_parts f xs p ps) (body_of no_keys p ps))
 
+-- `f (x ..) part .. body`
+abbrev pub function_of : List Datum → Outcome FunctionParts
+function_of [] = bad_part (codes "arguments")
+function_of (f ∷ parts) = and_then (name_of f) (λ f. formals_after f parts)
+
+-- `(defun f (x ..) part .. body)`
 abbrev pub defun : List Datum → Outcome Event
-defun [] = bad_part (codes "arguments")
-defun (f ∷ parts) = and_then (name_of f) (λ f. defun_after f parts)
+defun parts = map_outcome Defun (function_of parts)
+
+-- `(defun2 f (x ..) part .. body)`
+abbrev pub defun2 : List Datum → Outcome Event
+defun2 parts = map_outcome Defun2 (function_of parts)
 
 -- a theorem by its name, its formula and its keys
 abbrev pub theorem_parts : Name → Datum → List Datum → TheoremParts
 theorem_parts n formula parts = record {
   name = n;
   formula = formula;
+  assumed = given_items (value_of (codes ":ASSUMING") parts);
   proof = value_of (codes ":PROOF") parts;
   how = then_with (value_of (codes ":HOW") parts) items_of;
 }
@@ -104,22 +115,34 @@ abbrev pub defthm_after : Name → List Datum → Outcome Event
 defthm_after n [] = bad_part (codes "arguments")
 defthm_after n (formula ∷ parts) = map_outcome (λ seen. Defthm (theorem_parts n formula parts)) (keys Theorem no_keys parts)
 
-abbrev pub defthm_of : List Datum → Outcome Event
-defthm_of [] = bad_part (codes "arguments")
-defthm_of (n ∷ parts) = and_then (name_of n) (λ n. defthm_after n parts)
+abbrev pub defthm : List Datum → Outcome Event
+defthm [] = bad_part (codes "arguments")
+defthm (n ∷ parts) = and_then (name_of n) (λ n. defthm_after n parts)
+
+-- `(defunvar ?f (* ..) => *)`
+abbrev pub defunvar : List Datum → Outcome Event
+defunvar parts = map_outcome Defunvar (variable_parts parts)
+
+-- `(defun-sk2 s () (forall (x ..) matrix))`
+abbrev pub defun_sk2 : List Datum → Outcome Event
+defun_sk2 parts = map_outcome DefunSk2 (specification_parts parts)
+
+-- `(defun-inst f (g (?v . h) ..) key value ..)`
+abbrev pub defun_inst : List Datum → Outcome Event
+defun_inst parts = map_outcome DefunInst (instance_parts FunctionInstance parts)
+
+-- `(defthm-inst n (t (?v . h) ..) key value ..)`
+abbrev pub defthm_inst : List Datum → Outcome Event
+defthm_inst parts = map_outcome DefthmInst (instance_parts TheoremInstance parts)
+
+-- `(defiso n oldp newp forth back key value ..)`
+abbrev pub defiso : List Datum → Outcome Event
+defiso parts = map_outcome Defiso (iso_of parts)
 
 -- `(value-triple form)`
 abbrev pub value_triple : List Datum → Outcome Event
 value_triple (form ∷ []) = Ok (ValueTriple form)
 value_triple _ = bad_part (codes "arguments")
-
--- a key that isn't there yet makes a form no event, whatever else is wrong with it
-abbrev pub is_early_defthm : List Datum → Bool
-is_early_defthm (n ∷ formula ∷ parts) = has_unbuilt parts
-is_early_defthm _ = false
-
-abbrev pub defthm : List Datum → Outcome Event
-defthm parts = if is_early_defthm parts then not_an_event else defthm_of parts
 
 -- an event by its word and its parts
 abbrev pub by_parts : Option (List Datum) → Outcome Event
@@ -128,6 +151,12 @@ by_parts (Some []) = not_an_event
 by_parts (Some (word ∷ parts)) =
     if is_word (codes "DEFUN") word then defun parts
     else if is_word (codes "DEFTHM") word then defthm parts
+    else if is_word (codes "DEFISO") word then defiso parts
+    else if is_word (codes "DEFUN2") word then defun2 parts
+    else if is_word (codes "DEFUNVAR") word then defunvar parts
+    else if is_word (codes "DEFUN-SK2") word then defun_sk2 parts
+    else if is_word (codes "DEFUN-INST") word then defun_inst parts
+    else if is_word (codes "DEFTHM-INST") word then defthm_inst parts
     else if is_word (codes "IN-PACKAGE") word then in_package parts
     else if is_word (codes "INCLUDE-BOOK") word then include_book parts
     else if is_word (codes "VALUE-TRIPLE") word then value_triple parts

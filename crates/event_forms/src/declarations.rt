@@ -1,7 +1,6 @@
 //! Declarations of functions.
 
 ghost use Rattle.std.specs.Prelude.{◌≡◌, map, option_map, IfSome, IfOk};
-ghost use Rattle.std.specs.List.{list_all};
 ghost use Rattle.std.specs.Option.{option_copied};
 ghost use Rattle.lisp_data.specs.FormView.{form_of, IsProper, AllProper};
 ghost use Rattle.proof_texts.specs.Items as lists;
@@ -11,22 +10,10 @@ ghost use Rattle.event_forms.specs.Refused.{Says};
 
 use crate::errors::EventError;
 use crate::keys::{Keyed, SeenKeys, read_keys, value_of};
+use crate::places::all_symbols;
 use lisp_data::Form;
-use proof_texts::{is_word, items, symbol, text};
+use proof_texts::{is_word, items, text};
 use std::alloc::Global;
-
-#[tactic(auto, using(proof_texts::proofs::ItemLemmas::proper_at))]
-fn all_symbols(forms: &[Form]) -> bool
-    requires { AllProper forms.now }
-    ensures { result ≡ list_all spec.is_symbol (map form_of forms.now) }
-{
-    for form in forms {
-        if symbol(form).is_none() {
-            return false;
-        }
-    }
-    true
-}
 
 /// The keys that were seen and those of a declaration: `(xargs key value ..)`, `(ignore x ..)` or `(ignorable x ..)`.
 fn read_declaration(

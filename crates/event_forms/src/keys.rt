@@ -11,6 +11,7 @@ ghost use Rattle.event_forms.specs.Refused.{Says};
 
 use crate::clauses::{ClauseKind, add_name, name_conditions};
 use crate::errors::EventError;
+use crate::places::all_symbols;
 use lisp_data::{Form, Memory, Symbol, Symbols};
 use proof_texts::{contains, is_among, is_word, items, symbol};
 use std::alloc::Global;
@@ -43,9 +44,9 @@ fn add_goal(alloc: Global, named: Symbols) -> Result<Option<Symbols>, Memory>
     add_name(named, &goal)
 }
 
-fn named_in_function(named: Symbols, key: &str, value: &Form) -> Result<Option<Symbols>, Memory>
+fn named_in_clauses(named: Symbols, key: &str, value: &Form) -> Result<Option<Symbols>, Memory>
     requires { IsProper value.now }
-    ensures { IfOk result (λ names. names ≡ spec.in_function named key.now (form_of value.now)) }
+    ensures { IfOk result (λ names. names ≡ spec.in_clauses named key.now (form_of value.now)) }
 {
     if key == ":PROOF" {
         name_conditions(ClauseKind::Proof, named, value)
@@ -53,6 +54,23 @@ fn named_in_function(named: Symbols, key: &str, value: &Form) -> Result<Option<S
         name_conditions(ClauseKind::Hints, named, value)
     } else {
         Ok(Some(named))
+    }
+}
+
+/// The same conditions, where the value is a list of names.
+fn if_names(named: Symbols, value: &Form) -> Option<Symbols>
+    requires { IsProper value.now }
+    ensures { result ≡ spec.if_names named (lists.items_of (form_of value.now)) }
+{
+    match items(value) {
+        Some(forms) => {
+            if all_symbols(forms) {
+                Some(named)
+            } else {
+                None
+            }
+        }
+        None => None,
     }
 }
 
@@ -72,16 +90,21 @@ fn named_in_theorem(
             Some(_) => add_goal(alloc, named),
             None => Ok(None),
         }
+    } else if key == ":ASSUMING" {
+        Ok(if_names(named, value))
     } else {
         Ok(Some(named))
     }
 }
 
-/// Where keys stand: in the declarations of a function, in a theorem, or behind the name of a book.
+/// Where keys stand: in the declarations of a function, in a theorem, an isomorphism or an instance, or behind the name of a book.
 #[derive(Clone, Copy, Debug, PartialEq, Eq)]
 pub enum Keyed {
     Function,
     Theorem,
+    Isomorphism,
+    FunctionInstance,
+    TheoremInstance,
     Book,
 }
 
@@ -102,7 +125,10 @@ impl Keyed {
                 ]
                 .as_slice()
             }
-            Keyed::Theorem => [":RULE-CLASSES", ":HOW", ":PROOF"].as_slice(),
+            Keyed::Theorem => [":RULE-CLASSES", ":ASSUMING", ":HOW", ":PROOF"].as_slice(),
+            Keyed::Isomorphism => [":HOW", ":PROOF"].as_slice(),
+            Keyed::FunctionInstance => [":VERIFY-GUARDS"].as_slice(),
+            Keyed::TheoremInstance => [":RULE-CLASSES"].as_slice(),
             Keyed::Book => [":DIR"].as_slice(),
         };
         is_among(known, key.as_bytes())
@@ -114,7 +140,11 @@ impl Keyed {
     {
         match self {
             Keyed::Function => "declare",
-            Keyed::Theorem | Keyed::Book => "arguments",
+            Keyed::Theorem
+            | Keyed::Isomorphism
+            | Keyed::FunctionInstance
+            | Keyed::TheoremInstance
+            | Keyed::Book => "arguments",
         }
     }
 
@@ -130,8 +160,9 @@ impl Keyed {
         ensures { IfOk result (λ names. names ≡ spec.named_by self named key.now (form_of value.now)) }
     {
         match self {
-            Keyed::Function => named_in_function(named, key, value),
+            Keyed::Function | Keyed::Isomorphism => named_in_clauses(named, key, value),
             Keyed::Theorem => named_in_theorem(alloc, named, key, value),
+            Keyed::FunctionInstance | Keyed::TheoremInstance => Ok(Some(named)),
             Keyed::Book => {
                 if is_word(value, ":SYSTEM") {
                     Ok(Some(named))
@@ -235,30 +266,4 @@ pub(crate) fn value_of<'a>(key: &str, parts: &'a [Form]) -> Option<&'a Form>
         rest = behind;
     }
     None
-}
-
-/// A key of a theorem that isn't there yet.
-fn is_unbuilt(key: &Form) -> bool
-    requires { IsProper key.now }
-    ensures { result ≡ spec.is_unbuilt (form_of key.now) }
-{
-    is_word(key, ":ASSUMING")
-}
-
-/// Whether a key that isn't there yet stands in a key's place.
-pub(crate) fn has_unbuilt(parts: &[Form]) -> bool
-    requires { AllProper parts.now }
-    ensures { result ≡ spec.has_unbuilt (map form_of parts.now) }
-{
-    let mut rest = parts;
-    while let [key, _, behind @ ..] = rest {
-        if is_unbuilt(key) {
-            return true;
-        }
-        rest = behind;
-    }
-    match rest {
-        [key, ..] => is_unbuilt(key),
-        [] => false,
-    }
 }

@@ -4,10 +4,19 @@
 mod clauses;
 mod declarations;
 mod errors;
+mod instances;
+mod isomorphisms;
 mod keys;
+mod limits;
+mod places;
+mod second_order;
 mod shapes;
 
 pub use clauses::{ClauseKind, clause, hint_clause};
 pub use errors::EventError;
+pub use instances::{InstanceParts, read_pairs};
+pub use isomorphisms::IsoParts;
 pub use keys::Keyed;
+pub use limits::MAX_FORMALS;
+pub use second_order::{SpecificationParts, VariableParts};
 pub use shapes::{Event, FunctionParts, TheoremParts, read_event};

@@ -8,14 +8,18 @@ ghost use Rattle.proof_texts.specs.Items.{items_of};
 ghost use Rattle.event_forms.specs.Keys.{value_of};
 ghost use Rattle.event_forms.specs.Shapes as spec;
 ghost use Rattle.event_forms.specs.Refused.{Says};
-ghost use Rattle.event_forms.specs.view.ShapeView.{seen, theorem_seen, IsProperTheorem, HasProperParts};
+ghost use Rattle.event_forms.specs.view.ShapeView.{seen, function_seen, theorem_seen, IsProperFunction, IsProperTheorem, HasProperParts};
 
 use crate::clauses::given_items;
 use crate::declarations::{body, declared_value};
 use crate::errors::EventError;
-use crate::keys::{Keyed, SeenKeys, has_unbuilt, read_keys, value_of};
+use crate::instances::{InstanceParts, instance};
+use crate::isomorphisms::{IsoParts, iso};
+use crate::keys::{Keyed, SeenKeys, read_keys, value_of};
+use crate::places::{formals, name, string};
+use crate::second_order::{SpecificationParts, VariableParts, specification, variable};
 use lisp_data::{Form, Symbol};
-use proof_texts::{is_among, is_word, items, symbol, text};
+use proof_texts::{is_among, is_word, items};
 use std::alloc::Global;
 
 /// The parts of a function.
@@ -37,6 +41,8 @@ pub struct FunctionParts<'a> {
 pub struct TheoremParts<'a> {
     pub name: &'a Symbol,
     pub formula: &'a Form,
+    /// The names of the specifications that it assumes.
+    pub assumed: &'a [Form],
     /// Its proof, if it has one.
     pub proof: Option<&'a Form>,
     /// Its hint steps, if it has some.
@@ -51,6 +57,12 @@ pub enum Event<'a> {
     IncludeBook(&'a [u8]),
     Defun(FunctionParts<'a>),
     Defthm(TheoremParts<'a>),
+    Defiso(IsoParts<'a>),
+    Defun2(FunctionParts<'a>),
+    Defunvar(VariableParts<'a>),
+    DefunSk2(SpecificationParts<'a>),
+    DefunInst(InstanceParts<'a>),
+    DefthmInst(InstanceParts<'a>),
     /// The form whose value is printed.
     ValueTriple(&'a Form),
 }
@@ -66,33 +78,11 @@ const BOOKS: [&str; 7] = [
     "kestrel/apt/solve",
 ];
 
-/// A name in a place where one has to stand.
-fn name<'a>(alloc: Global, form: &'a Form) -> Result<&'a Symbol, EventError>
-    requires { IsProper form.now }
-    ensures { Says (λ name. name.now) (spec.name_of (form_of form.now)) result }
-{
-    match symbol(form) {
-        Some(name) => Ok(name),
-        None => Err(EventError::bad_part(alloc, "name")),
-    }
-}
-
 #[tactic(auto, unfolding(crate::specs::Shapes::books))]
 fn is_book(name: &[u8]) -> bool
     ensures { result ≡ is_in spec.books name.now }
 {
     is_among(&BOOKS, name)
-}
-
-/// A string in a place where one has to stand.
-fn string<'a>(alloc: Global, form: &'a Form) -> Result<&'a [u8], EventError>
-    requires { IsProper form.now }
-    ensures { Says (λ text. text.now) (spec.string_of (form_of form.now)) result }
-{
-    match text(form) {
-        Some(text) => Ok(text),
-        None => Err(EventError::bad_part(alloc, "arguments")),
-    }
 }
 
 /// The package of every book.
@@ -144,26 +134,15 @@ fn include_book<'a>(alloc: Global, parts: &'a [Form]) -> Result<Event<'a>, Event
     Ok(Event::IncludeBook(name))
 }
 
-fn formals<'a>(alloc: Global, form: &'a Form) -> Result<&'a [Form], EventError>
-    requires { IsProper form.now }
-    ensures formals { Says (λ formals. map form_of formals.now) (spec.formals_of (form_of form.now)) result }
-    ensures proper { IfOk result (λ formals. AllProper formals.now) }
-{
-    match items(form) {
-        Some(formals) => Ok(formals),
-        None => Err(EventError::bad_part(alloc, "formals")),
-    }
-}
-
 /// A function by its name, from its formals on.
-fn defun_after<'a>(
+fn function_after<'a>(
     alloc: Global,
     name: &'a Symbol,
     parts: &'a [Form],
-) -> Result<Event<'a>, EventError>
+) -> Result<FunctionParts<'a>, EventError>
     requires { AllProper parts.now }
-    ensures event { Says seen (spec.defun_after name.now (map form_of parts.now)) result }
-    ensures proper { IfOk result HasProperParts }
+    ensures parts { Says function_seen (spec.formals_after name.now (map form_of parts.now)) result }
+    ensures proper { IfOk result IsProperFunction }
 {
     let [list, rest @ ..] = parts else {
         return Err(EventError::bad_part(alloc, "arguments"));
@@ -173,14 +152,27 @@ fn defun_after<'a>(
         return Err(EventError::bad_part(alloc, "arguments"));
     };
     let body = body(alloc, first, rest)?;
-    Ok(Event::Defun(FunctionParts {
+    Ok(FunctionParts {
         name,
         formals,
         body,
         measure: declared_value(":MEASURE", first, rest),
         proofs: given_items(declared_value(":PROOF", first, rest)),
         hows: given_items(declared_value(":HOW", first, rest)),
-    }))
+    })
+}
+
+/// `f (x ..) part .. body`.
+fn function<'a>(alloc: Global, parts: &'a [Form]) -> Result<FunctionParts<'a>, EventError>
+    requires { AllProper parts.now }
+    ensures parts { Says function_seen (spec.function_of (map form_of parts.now)) result }
+    ensures proper { IfOk result IsProperFunction }
+{
+    let [first, rest @ ..] = parts else {
+        return Err(EventError::bad_part(alloc, "arguments"));
+    };
+    let name = name(alloc, first)?;
+    function_after(alloc, name, rest)
 }
 
 /// `(defun f (x ..) part .. body)`.
@@ -189,22 +181,18 @@ fn defun<'a>(alloc: Global, parts: &'a [Form]) -> Result<Event<'a>, EventError>
     ensures event { Says seen (spec.defun (map form_of parts.now)) result }
     ensures proper { IfOk result HasProperParts }
 {
-    let [function, rest @ ..] = parts else {
-        return Err(EventError::bad_part(alloc, "arguments"));
-    };
-    let function = name(alloc, function)?;
-    defun_after(alloc, function, rest)
+    let function = function(alloc, parts)?;
+    Ok(Event::Defun(function))
 }
 
-/// Whether the parts of a theorem have a key that isn't there yet.
-fn is_early_defthm(parts: &[Form]) -> bool
+/// `(defun2 f (x ..) part .. body)`.
+fn defun2<'a>(alloc: Global, parts: &'a [Form]) -> Result<Event<'a>, EventError>
     requires { AllProper parts.now }
-    ensures { result ≡ spec.is_early_defthm (map form_of parts.now) }
+    ensures event { Says seen (spec.defun2 (map form_of parts.now)) result }
+    ensures proper { IfOk result HasProperParts }
 {
-    match parts {
-        [_, _, rest @ ..] => has_unbuilt(rest),
-        _ => false,
-    }
+    let function = function(alloc, parts)?;
+    Ok(Event::Defun2(function))
 }
 
 /// The hint steps that are given among the keys of a theorem.
@@ -227,6 +215,7 @@ fn theorem<'a>(name: &'a Symbol, formula: &'a Form, keys: &'a [Form]) -> Theorem
     TheoremParts {
         name,
         formula,
+        assumed: given_items(value_of(":ASSUMING", keys)),
         proof: value_of(":PROOF", keys),
         how: steps(keys),
     }
@@ -238,9 +227,6 @@ fn defthm<'a>(alloc: Global, parts: &'a [Form]) -> Result<Event<'a>, EventError>
     ensures event { Says seen (spec.defthm (map form_of parts.now)) result }
     ensures proper { IfOk result HasProperParts }
 {
-    if is_early_defthm(parts) {
-        return Err(EventError::not_an_event());
-    }
     let [first, rest @ ..] = parts else {
         return Err(EventError::bad_part(alloc, "arguments"));
     };
@@ -250,6 +236,56 @@ fn defthm<'a>(alloc: Global, parts: &'a [Form]) -> Result<Event<'a>, EventError>
     };
     read_keys(alloc, Keyed::Theorem, SeenKeys::none(alloc), rest)?;
     Ok(Event::Defthm(theorem(name, formula, rest)))
+}
+
+/// `(defiso n oldp newp forth back key value ..)`.
+fn defiso<'a>(alloc: Global, parts: &'a [Form]) -> Result<Event<'a>, EventError>
+    requires { AllProper parts.now }
+    ensures event { Says seen (spec.defiso (map form_of parts.now)) result }
+    ensures proper { IfOk result HasProperParts }
+{
+    let iso = iso(alloc, parts)?;
+    Ok(Event::Defiso(iso))
+}
+
+/// `(defunvar ?f (* ..) => *)`.
+fn defunvar<'a>(alloc: Global, parts: &'a [Form]) -> Result<Event<'a>, EventError>
+    requires { AllProper parts.now }
+    ensures event { Says seen (spec.defunvar (map form_of parts.now)) result }
+    ensures proper { IfOk result HasProperParts }
+{
+    let variable = variable(alloc, parts)?;
+    Ok(Event::Defunvar(variable))
+}
+
+/// `(defun-sk2 s () (forall (x ..) matrix))`.
+fn defun_sk2<'a>(alloc: Global, parts: &'a [Form]) -> Result<Event<'a>, EventError>
+    requires { AllProper parts.now }
+    ensures event { Says seen (spec.defun_sk2 (map form_of parts.now)) result }
+    ensures proper { IfOk result HasProperParts }
+{
+    let specification = specification(alloc, parts)?;
+    Ok(Event::DefunSk2(specification))
+}
+
+/// `(defun-inst f (g (?v . h) ..) key value ..)`.
+fn defun_inst<'a>(alloc: Global, parts: &'a [Form]) -> Result<Event<'a>, EventError>
+    requires { AllProper parts.now }
+    ensures event { Says seen (spec.defun_inst (map form_of parts.now)) result }
+    ensures proper { IfOk result HasProperParts }
+{
+    let instance = instance(alloc, Keyed::FunctionInstance, parts)?;
+    Ok(Event::DefunInst(instance))
+}
+
+/// `(defthm-inst n (t (?v . h) ..) key value ..)`.
+fn defthm_inst<'a>(alloc: Global, parts: &'a [Form]) -> Result<Event<'a>, EventError>
+    requires { AllProper parts.now }
+    ensures event { Says seen (spec.defthm_inst (map form_of parts.now)) result }
+    ensures proper { IfOk result HasProperParts }
+{
+    let instance = instance(alloc, Keyed::TheoremInstance, parts)?;
+    Ok(Event::DefthmInst(instance))
 }
 
 /// `(value-triple form)`.
@@ -277,6 +313,18 @@ pub fn read_event(alloc: Global, form: &Form) -> Result<Event<'_>, EventError>
         defun(alloc, parts)
     } else if is_word(word, "DEFTHM") {
         defthm(alloc, parts)
+    } else if is_word(word, "DEFISO") {
+        defiso(alloc, parts)
+    } else if is_word(word, "DEFUN2") {
+        defun2(alloc, parts)
+    } else if is_word(word, "DEFUNVAR") {
+        defunvar(alloc, parts)
+    } else if is_word(word, "DEFUN-SK2") {
+        defun_sk2(alloc, parts)
+    } else if is_word(word, "DEFUN-INST") {
+        defun_inst(alloc, parts)
+    } else if is_word(word, "DEFTHM-INST") {
+        defthm_inst(alloc, parts)
     } else if is_word(word, "IN-PACKAGE") {
         in_package(alloc, parts)
     } else if is_word(word, "INCLUDE-BOOK") {

@@ -19,7 +19,7 @@ as_long [] ss = grind arith
 as_long (c ∷ cs) ss = let n = as_long cs ss in grind (arith, n)
 
 pub proof_for_each : ProofForEach
-proof_for_each W form next lines proofs a = (
+proof_for_each W form show next lines proofs a = (
   as_many W (owed_before a.plan) proofs.before a.proved.before ∙ as_long a.plan.conditions a.plan.before,
   as_many (add_functions a.plan.entries W) a.plan.after proofs.after a.proved.after,
 )

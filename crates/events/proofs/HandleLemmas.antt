@@ -1,5 +1,5 @@
 -- What the handling of an event rests on.
-use Rattle.std.proofs.Common.{◌≡◌, List, [], ◌++◌, Ok, ap, sym, ◌∙◌, subst}
+use Rattle.std.proofs.Common.{◌≡◌, List, [], ◌++◌, Ok, refl, ap, sym, ◌∙◌, subst}
 use Rattle.std.proofs.lemmas.List.{append-nil}
 use Rattle.lisp_data.specs.Values.{Name}
 use Rattle.terms.specs.Worlds.{World}
@@ -63,12 +63,13 @@ carried W p clauses cs old ws us cs_is named old_is e us_is h =
     ∙ ap (λ (o : Judged (Unit {0})). goes_on o (λ _. Ok p)) h'
 
 -- what it makes, with the proofs of its conditions
-pub made_by : (W V next : World) (p : Plan) (cs : List Condition) (us : List Way) (start before after : List Conclusion) (es : List Entry) → IsDirect p → cs ≡ p.conditions → start ≡ [] → AreProvedAfter W cs us start before → V ≡ W → es ≡ p.entries → next ≡ add_entries es V → after ≡ [] → IsMade W p (record { world = next; proofs = record { before = before; after = after } })
+pub made_by : (W V next : World) (p : Plan) (cs : List Condition) (us : List Way) (start before after : List Conclusion) (es : List Entry) → IsDirect p → cs ≡ p.conditions → start ≡ [] → AreProvedAfter W cs us start before → V ≡ W → es ≡ p.entries → next ≡ add_entries es V → after ≡ [] → IsMade W p (record { plan = p; world = next; proofs = record { before = before; after = after } })
 made_by W V next p cs us start before after es direct cs_is start_is it V_is es_is next_is after_is =
     let before_is : it.further ≡ before = sym (it.joined ∙ ap (λ xs. xs ++ it.further) start_is) in
     let owed : sequents p.conditions ≡ owed_before p = sym (ap (λ ss. sequents p.conditions ++ ss) direct.before ∙ append-nil (sequents p.conditions)) in
     let U = add_functions p.entries W in
     record {
+      plan = refl;
       world = next_is ∙ ap (λ xs. add_entries xs V) es_is ∙ ap (add_entries p.entries) V_is;
       proved = record {
         before = subst (λ (ss : List Sequent). ProvesAll W ss before) owed

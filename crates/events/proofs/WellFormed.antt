@@ -30,11 +30,17 @@ use Rattle.term_forms.specs.Names.{is_function_name}
 use Rattle.worlds.specs.Names.{is_free}
 use Rattle.worlds.proofs.Free.{free}
 use Rattle.proof_texts.specs.Parts.{any}
-use Rattle.events.specs.declared.definitions.TheConstants.{MAX_FORMALS}
+use Rattle.event_forms.specs.declared.limits.TheConstants.{MAX_FORMALS}
 use Rattle.events.proofs.Inversions.{then_ok, map_ok, if_ok, unless_ok}
 use Rattle.lisp_data.specs.declared.code.Code.TheVariants as code
+use Rattle.terms.specs.declared.entries.Specification.{Specification}
+use Rattle.event_forms.specs.SecondOrder.{SpecificationParts}
 use Rattle.event_forms.specs.Shapes.{FunctionParts}
-use Rattle.events.specs.Definitions.{names_of, distinct, formals_of, with_own, function, body_of, given_measure, by_default, or_default, measure_of, definition_over, definition_of, new_name}
+use Rattle.events.specs.declared.orders.Order.{Order}
+use Rattle.events.specs.declared.orders.Order.TheVariants.{Second}
+use Rattle.events.specs.DefunSk2.{specification, specification_over, specification_of}
+use Rattle.events.specs.Orders.{in_order}
+use Rattle.events.specs.Definitions.{names_of, distinct, variables_of, formals_of, with_own, function, body_of, given_measure, by_default, or_default, measure_of, terms_of, definition_over, definition_of, new_name}
 
 in_list : (ys : List Name) (x : Name) → is_in ys x ≡ true → IsIn ys x
 in_list [] x e = cc
@@ -74,7 +80,7 @@ all_distinct before (x ∷ xs) h =
 
 formals_distinct : (forms : List Datum) (xs : List Name) → formals_of forms ≡ Ok xs → Distinct xs
 formals_distinct forms xs e =
-    let p = if_ok (nat_le (length forms) MAX_FORMALS) (and_then (names_of forms) distinct) (code.BadForm, detail.Word (codes "formals")) xs e in
+    let p = if_ok (nat_le (length forms) MAX_FORMALS) (variables_of forms) (code.BadForm, detail.Word (codes "formals")) xs e in
     let q = then_ok (names_of forms) distinct xs p.1 in
     let r = map_ok (distinct_after [] q.0) (λ _. q.0) xs q.2 in
     subst Distinct r.2 (all_distinct [] q.0 r.1)
@@ -243,28 +249,39 @@ can_owe F d none ok = record {
     own_calls : (g : Name) (k : ℕ) → arity (with_def F d) g ≡ Some k → g ≡ d.name → k ≡ length d.formals
     own_calls g k h same = let own : Some (length d.formals) ≡ Some k = sym (own_name F d none) ∙ ap (arity (with_def F d)) (sym same) ∙ h in cc
 
+-- a specification that a world can take
+pub record IsSpecified (W : World) (n : Name) (s : Specification) : Type 0 where
+  pub named : s.name ≡ n
+  pub fits : FitsOver W.functions s.variables s.matrix
+
 module _ (fit : TranslatedTermsFit) (W : World) (sound : Sound W) where
+  -- a term over some variables
+  fits_over : (xs : List Name) (form : Datum) (t : Tm) → translate (arity W.functions) (is_in xs) form ≡ Ok t → FitsOver W.functions xs t
+  fits_over xs form t e =
+      let A = arity W.functions in
+      over_map (λ x. is_in xs x ≡ true) (IsIn xs) (λ g k. A g ≡ Some k) (λ g k. A g ≡ Some k) (in_list xs) (λ g k h. h) t (fit A (words W sound) (is_in xs) form t e).fits
+
   -- the measure that is given
   given_fits : (xs : List Name) (form : Option Datum) (given : Option Tm) → given_measure W xs form ≡ Ok given → FitsMeasure W.functions xs given
   given_fits xs None given e = let same : None ≡ given = cc in subst (FitsMeasure W.functions xs) same tt
   given_fits xs (Some form) given e =
       let A = arity W.functions in
       let m = map_ok (translate A (is_in xs) form) Some given e in
-      subst (FitsMeasure W.functions xs) m.2
-      (over_map (λ x. is_in xs x ≡ true) (IsIn xs) (λ g k. A g ≡ Some k) (λ g k. A g ≡ Some k) (in_list xs) (λ g k h. h) m.0 (fit A (words W sound) (is_in xs) form m.0 m.1).fits)
+      subst (FitsMeasure W.functions xs) m.2 (fits_over xs form m.0 m.1)
 
-  pub takeable : (p : FunctionParts) → is_free W p.name ≡ true → (d : Definition) → definition_of W p ≡ Ok d → IsTakeable W p.name d
-  takeable p is d e =
+  pub takeable : (order : Order) (p : FunctionParts) → is_free W p.name ≡ true → (d : Definition) → definition_of W order p ≡ Ok d → IsTakeable W p.name d
+  takeable order p is d e =
       let F = W.functions in
       let f = p.name in
       let unused = (free W f is).no_function in
-      let q = then_ok (formals_of p.formals) (definition_over W p) d e in
+      let q = then_ok (formals_of p.formals) (definition_over W order p) d e in
       let xs = q.0 in
       let takes = with_own f (length xs) (arity F) in
-      let b = then_ok (body_of W f xs p.body) (λ body. and_then (given_measure W xs p.measure) (λ given. map_outcome (function f xs body) (measure_of f xs body given))) d q.2 in
+      let b = then_ok (body_of W f xs p.body) (λ body. and_then (given_measure W xs p.measure) (λ given. and_then (in_order W order (terms_of body given)) (λ _. map_outcome (function f xs body) (measure_of f xs body given)))) d q.2 in
       let t = b.0 in
-      let g = then_ok (given_measure W xs p.measure) (λ given. map_outcome (function f xs t) (measure_of f xs t given)) d b.2 in
-      let m = map_ok (measure_of f xs t g.0) (function f xs t) d g.2 in
+      let g = then_ok (given_measure W xs p.measure) (λ given. and_then (in_order W order (terms_of t given)) (λ _. map_outcome (function f xs t) (measure_of f xs t given))) d b.2 in
+      let o = then_ok (in_order W order (terms_of t g.0)) (λ _. map_outcome (function f xs t) (measure_of f xs t g.0)) d g.2 in
+      let m = map_ok (measure_of f xs t g.0) (function f xs t) d o.2 in
       let measured = measure_fits F f xs t g.0 m.0 (given_fits xs p.measure g.0 g.1) m.1 in
       let over = (fit takes (own_words W sound f (length xs) unused) (is_in xs) p.body t b.1).fits in
       subst (IsTakeable W f) m.2 (record {
@@ -277,6 +294,14 @@ module _ (fit : TranslatedTermsFit) (W : World) (sound : Sound W) where
           flat = measured.flat;
         };
       })
+
+  pub specified : (p : SpecificationParts) (s : Specification) → specification_of W p ≡ Ok s → IsSpecified W p.name s
+  specified p s e =
+      let q = then_ok (variables_of p.variables) (specification_over W p) s e in
+      let xs = q.0 in
+      let m = then_ok (translate (arity W.functions) (is_in xs) p.matrix) (λ matrix. map_outcome (λ _. specification p.name xs matrix) (in_order W Second (matrix ∷ []))) s q.2 in
+      let o = map_ok (in_order W Second (m.0 ∷ [])) (λ _. specification p.name xs m.0) s m.2 in
+      subst (IsSpecified W p.name) o.2 (record { named = refl {a = p.name}; fits = fits_over xs p.matrix m.0 m.1 })
 
   -- the formula of a theorem fits the world
   pub formula_fits : (form : Datum) (t : Tm) → translate (arity W.functions) any form ≡ Ok t → Fits W.functions t

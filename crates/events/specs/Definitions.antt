@@ -14,9 +14,11 @@ use Rattle.worlds.specs.Names.{is_free}
 use Rattle.measures.specs.DefaultMeasure.{default_measure}
 use Rattle.measures.specs.declared.errors.MeasureError.{MeasureError}
 use Rattle.measures.specs.declared.errors.MeasureError.TheVariants as measure
-use Rattle.events.specs.declared.definitions.TheConstants.{MAX_FORMALS}
+use Rattle.event_forms.specs.declared.limits.TheConstants.{MAX_FORMALS}
 use Rattle.event_forms.specs.Refused.{not_an_event, bad_part}
 use Rattle.event_forms.specs.Shapes.{FunctionParts}
+use Rattle.events.specs.declared.orders.Order.{Order}
+use Rattle.events.specs.Orders.{in_order}
 
 -- the name of a new function or theorem
 abbrev pub new_name : World → Name → Outcome (Unit {0})
@@ -36,9 +38,13 @@ names_of (form ∷ forms) = and_rest (formal_of form) (names_of forms)
 abbrev pub distinct : List Name → Outcome (List Name)
 distinct xs = map_outcome (λ _. xs) (distinct_after [] xs)
 
--- at most so many variable names, none of them twice
+-- variable names, none of them twice
+abbrev pub variables_of : List Datum → Outcome (List Name)
+variables_of forms = and_then (names_of forms) distinct
+
+-- at most so many of them
 abbrev pub formals_of : List Datum → Outcome (List Name)
-formals_of forms = if nat_le (length forms) MAX_FORMALS then and_then (names_of forms) distinct else bad_part (codes "formals")
+formals_of forms = if nat_le (length forms) MAX_FORMALS then variables_of forms else bad_part (codes "formals")
 
 -- the functions of the world, and the new function with so many arguments
 abbrev pub with_own : Name → ℕ → Takes → Takes
@@ -76,13 +82,20 @@ measure_of f xs body given =
 abbrev pub function : Name → List Name → Tm → Option Tm → Definition
 function f xs body m = record { name = f; formals = xs; body = body; measure = m }
 
--- the definition of a function over these formals: its body comes first, then the measure that is given, then its recursion
-abbrev pub definition_over : World → FunctionParts → List Name → Outcome Definition
-definition_over W p xs =
+-- the body, and the measure that is given
+abbrev pub terms_of : Tm → Option Tm → List Tm
+terms_of body None = body ∷ []
+terms_of body (Some m) = body ∷ m ∷ []
+
+-- The definition of a function over these formals, of first or of second order. Its body comes first, then the measure that is given, then on what
+-- these depend, then its recursion.
+abbrev pub definition_over : World → Order → FunctionParts → List Name → Outcome Definition
+definition_over W order p xs =
     and_then (body_of W p.name xs p.body) (λ body.
     and_then (given_measure W xs p.measure) (λ given.
-    map_outcome (function p.name xs body) (measure_of p.name xs body given)))
+    and_then (in_order W order (terms_of body given)) (λ _.
+    map_outcome (function p.name xs body) (measure_of p.name xs body given))))
 
 -- the definition of a function by its parts
-abbrev pub definition_of : World → FunctionParts → Outcome Definition
-definition_of W p = and_then (formals_of p.formals) (definition_over W p)
+abbrev pub definition_of : World → Order → FunctionParts → Outcome Definition
+definition_of W order p = and_then (formals_of p.formals) (definition_over W order p)

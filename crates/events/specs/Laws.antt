@@ -1,5 +1,5 @@
 -- The laws of events.
-use Rattle.std.specs.Prelude.{◌≡◌, ℕ, ◌+◌, List, [], length, Ok}
+use Rattle.std.specs.Prelude.{◌≡◌, ℕ, ◌+◌, Bool, List, [], length, Ok}
 use Rattle.lisp_data.specs.Values.{Val}
 use Rattle.lisp_data.specs.Datum.{Datum}
 use Rattle.terms.specs.Worlds.{World, Each, FitsSequent}
@@ -34,7 +34,7 @@ AcceptedIsSound = (W : World) → Sound W → (form : Datum) (e : Frame) → IsL
 -- an accepted event has one proof for each of its conditions and claims
 abbrev pub ProofForEach : Type 0
 ProofForEach =
-    (W : World) (form : Datum) (next : World) (lines : List (List ℕ)) (proofs : EventProofs) → (a : IsAccepted W form next lines proofs) →
+    (W : World) (form : Datum) (show : Bool) (next : World) (lines : List (List ℕ)) (proofs : EventProofs) → (a : IsAccepted W form show next lines proofs) →
     (length proofs.before ≡ length a.plan.conditions + length a.plan.before) × (length proofs.after ≡ length a.plan.after)
 
 -- a value that is printed is the one that the form of a value-triple has in the model

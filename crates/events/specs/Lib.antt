@@ -1,11 +1,18 @@
 -- Names that crates above use.
 pub use Rattle.events.specs.view.Halts
+pub mod Orders
 pub mod Definitions
+pub mod Functions
 pub mod Frames
 pub mod InPackage
 pub mod IncludeBook
 pub mod Defun
 pub mod Defthm
+pub mod Defiso
+pub mod Defunvar
+pub mod DefunSk2
+pub mod DefunInst
+pub mod DefthmInst
 pub mod ValueTriple
 pub mod Kinds
 pub mod Redundancy
@@ -13,6 +20,7 @@ pub mod Verdicts
 pub mod ModelValues
 pub mod Refusals
 pub mod Lines
+pub mod Shown
 pub mod Steps
 pub mod Laws
 pub mod view

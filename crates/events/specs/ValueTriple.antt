@@ -1,5 +1,5 @@
 -- `value-triple`, which makes nothing and prints the value of a term. It may stand again.
-use Rattle.std.specs.Prelude.{[], codes, Some, Ok, Err}
+use Rattle.std.specs.Prelude.{[], codes, Some, Ok, Err, false}
 use Rattle.lisp_data.specs.Values.{Val}
 use Rattle.lisp_data.specs.Datum.{Datum}
 use Rattle.lisp_data.specs.declared.code.Code.TheVariants as code
@@ -37,6 +37,7 @@ value_in W form = goes_on (coded (ground_term W form)) (λ t. given (evaluated W
 abbrev pub value_triple : Datum → Frame
 value_triple form = record {
   title = codes "value-triple";
+  shows = false;
   prints = Some (λ W. value_in W form);
   names = [];
   repeats = Never;

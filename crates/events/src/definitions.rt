@@ -1,6 +1,6 @@
 //! What events define.
 
-ghost use Rattle.std.specs.Prelude.{◌≡◌, [], map, option_map, Some, IfSome};
+ghost use Rattle.std.specs.Prelude.{◌≡◌, [], map, option_map, Some, IfOk, IfSome};
 ghost use Rattle.lisp_data.specs.FormView.{form_of, IsProper, AllProper};
 ghost use Rattle.term_forms.specs.Translation.{distinct_after};
 ghost use Rattle.measures.specs.DefaultMeasure as defaults;
@@ -10,18 +10,16 @@ ghost use Rattle.events.specs.view.Halts.{Reads};
 
 use crate::halt::Halt;
 use crate::names::is_among;
+use crate::orders::{Order, check_order};
 use crate::own::WithOwn;
-use event_forms::FunctionParts;
-use lisp_data::{Code, Form, Symbol, Symbols};
+use event_forms::{FunctionParts, MAX_FORMALS};
+use lisp_data::{Code, Form, Memory, Symbol, Symbols};
 use measures::{MeasureError, default_measure, is_nested, mentions};
 use proof_texts::symbol;
 use std::alloc::Global;
 use term_forms::{Scope, is_variable_name, translate};
-use terms::{Definition, Term};
+use terms::{Definition, Term, Terms};
 use worlds::World;
-
-/// The most formals of a function.
-pub const MAX_FORMALS: usize = 16;
 
 /// A variable name.
 fn formal<'a>(alloc: Global, form: &'a Form) -> Result<&'a Symbol, Halt>
@@ -66,6 +64,16 @@ fn check_distinct(names: &[Symbol]) -> Result<(), Halt>
     Ok(())
 }
 
+/// Variable names, none of them twice.
+pub(crate) fn read_variables(alloc: Global, forms: &[Form]) -> Result<Symbols, Halt>
+    requires { AllProper forms.now }
+    ensures { Reads (λ xs. xs) (spec.variables_of (map form_of forms.now)) result }
+{
+    let names = read_names(alloc, forms)?;
+    check_distinct(names.as_slice())?;
+    Ok(names)
+}
+
 /// At most 16 variable names, none of them twice.
 fn read_formals(alloc: Global, forms: &[Form]) -> Result<Symbols, Halt>
     requires { AllProper forms.now }
@@ -74,9 +82,7 @@ fn read_formals(alloc: Global, forms: &[Form]) -> Result<Symbols, Halt>
     if forms.len() > MAX_FORMALS {
         return Err(Halt::bad_part(alloc, "formals"));
     }
-    let names = read_names(alloc, forms)?;
-    check_distinct(names.as_slice())?;
-    Ok(names)
+    read_variables(alloc, forms)
 }
 
 /// The body of a function over its formals.
@@ -170,18 +176,36 @@ fn measure_of(
     }
 }
 
-/// The definition of a function over its formals.
+/// The body, and the measure that is given.
+fn terms_of(alloc: Global, body: &Term, given: &Option<Term>) -> Result<Terms, Memory>
+    ensures { IfOk result (λ ts. ts ≡ spec.terms_of body.now given.now) }
+{
+    let mut terms = Terms::new(alloc);
+    terms.push(body.share()?)?;
+    match given {
+        None => Ok(terms),
+        Some(measure) => {
+            terms.push(measure.share()?)?;
+            Ok(terms)
+        }
+    }
+}
+
+/// The definition of a function over its formals, of this order.
 fn read_over(
     alloc: Global,
     world: &World,
+    order: Order,
     parts: &FunctionParts<'_>,
     formals: Symbols,
 ) -> Result<Definition, Halt>
     requires { IsProperFunction parts.now }
-    ensures { Reads (λ d. d) (spec.definition_over world.now (function_seen parts.now) formals) result }
+    ensures { Reads (λ d. d) (spec.definition_over world.now order (function_seen parts.now) formals) result }
 {
     let body = read_body(alloc, world, parts.name, &formals, parts.body)?;
     let given = read_measure(alloc, world, &formals, parts.measure)?;
+    let terms = terms_of(alloc, &body, &given)?;
+    check_order(alloc, world, order, &terms)?;
     let measure = measure_of(alloc, parts.name, &formals, &body, given)?;
     let name = parts.name.share()?;
     Ok(Definition {
@@ -192,15 +216,16 @@ fn read_over(
     })
 }
 
-/// The definition of a function by its parts.
+/// The definition of a function by its parts, of this order.
 pub(crate) fn read_definition(
     alloc: Global,
     world: &World,
+    order: Order,
     parts: &FunctionParts<'_>,
 ) -> Result<Definition, Halt>
     requires { IsProperFunction parts.now }
-    ensures { Reads (λ d. d) (spec.definition_of world.now (function_seen parts.now)) result }
+    ensures { Reads (λ d. d) (spec.definition_of world.now order (function_seen parts.now)) result }
 {
     let formals = read_formals(alloc, parts.formals)?;
-    read_over(alloc, world, parts, formals)
+    read_over(alloc, world, order, parts, formals)
 }

@@ -7,6 +7,7 @@ use hints::HintError;
 use lisp_data::{Code, Detail, Symbol};
 use lists::{Memory, Text};
 use proof_texts::ProofError;
+use soft_vars::SoftError;
 use std::alloc::Global;
 use term_forms::TermError;
 
@@ -139,6 +140,19 @@ impl From<TermError> for Halt {
         match error {
             TermError::Refused { code, detail } => Halt::Refused(Refusal::Coded { code, detail }),
             TermError::Memory => Halt::Memory,
+        }
+    }
+}
+
+impl From<SoftError> for Halt {
+    ghost use Rattle.events.specs.view.Halts.{IsFromSoft};
+
+    ghost from_gives = { λ t e. IsFromSoft t e };
+
+    fn from(error: SoftError) -> Halt {
+        match error {
+            SoftError::Refused { code, detail } => Halt::Refused(Refusal::Coded { code, detail }),
+            SoftError::Memory => Halt::Memory,
         }
     }
 }

@@ -1,10 +1,12 @@
 //! The checks of an event in their order, whatever its kind, and what it makes.
 
-ghost use Rattle.std.specs.Prelude.{◌≡◌, codes, IfOk, None};
+ghost use Rattle.std.specs.Prelude.{◌≡◌, ◌∷◌, ◌&&◌, codes, IfOk, None, Ok};
 ghost use Rattle.lisp_data.specs.FormView.{form_of, IsProper};
 ghost use Rattle.terms.specs.Sound.{add_event};
 ghost use Rattle.plans.specs.Plans.{IsDirect};
 ghost use Rattle.events.specs.Laws.{IsSuited};
+ghost use Rattle.events.specs.Lines.{event_text};
+ghost use Rattle.events.specs.Shown.{plan_lines};
 ghost use Rattle.events.specs.Verdicts.{proved, checked};
 ghost use Rattle.events.specs.view.Halts.{Judges, Handles, clauses_seen, AreProper};
 
@@ -15,7 +17,8 @@ use crate::lines::{event_line, one_line};
 use crate::names::check_names;
 use crate::proving::prove_all;
 use crate::redundancy::is_redundant;
-use crate::steps::StepAnswer;
+use crate::shown::push_shown;
+use crate::steps::{Lines, StepAnswer};
 use kernel::Proved;
 use lisp_data::{Form, Memory, Seq, Symbols};
 use plans::{Plan, install};
@@ -43,8 +46,9 @@ impl Drop for EventProofs {
     }
 }
 
-/// What an accepted event makes: a world, in which it isn't kept yet, and its proofs.
+/// What an accepted event makes by its plan: a world, in which it isn't kept yet, and its proofs.
 pub(crate) struct Made {
+    pub plan: Plan,
     pub world: World,
     pub proofs: EventProofs,
 }
@@ -52,6 +56,7 @@ pub(crate) struct Made {
 impl Drop for Made {
     fn drop(self) {
         let Made {
+            plan: _,
             world: _,
             proofs: _,
         } = self;
@@ -65,18 +70,22 @@ impl Made {
         ensures world { IfOk result (λ kept. kept.0 ≡ add_event (form_of form.now) self.world) }
         ensures proofs { IfOk result (λ kept. kept.1 ≡ self.proofs) }
     {
-        let Made { world, proofs } = self;
+        let Made {
+            plan: _,
+            world,
+            proofs,
+        } = self;
         let world = world.with_event(alloc, form.copy(alloc)?)?;
         Ok((world, proofs))
     }
 }
 
 /// Proves the conditions of a plan, and makes what it plans.
-fn carry_out(alloc: Global, world: &World, plan: &Plan, clauses: &Clauses<'_>) -> Result<Made, Halt>
-    requires suited { IsSuited world.now plan.now }
-    requires direct { IsDirect plan.now }
+fn carry_out(alloc: Global, world: &World, plan: Plan, clauses: &Clauses<'_>) -> Result<Made, Halt>
+    requires suited { IsSuited world.now plan }
+    requires direct { IsDirect plan }
     requires proper { AreProper clauses.now }
-    ensures { Judges world.now (proved world.now (clauses_seen clauses.now) plan.now) result }
+    ensures { Judges world.now (proved world.now (clauses_seen clauses.now) plan) result }
 {
     world.soundness();
     hints_fit();
@@ -94,6 +103,7 @@ fn carry_out(alloc: Global, world: &World, plan: &Plan, clauses: &Clauses<'_>) -
     let world = install(alloc, world.share()?, plan.entries.as_slice())?;
     let after = ProvedList::new(alloc);
     Ok(Made {
+        plan,
         world,
         proofs: EventProofs { before, after },
     })
@@ -109,7 +119,22 @@ fn judge<K: Kind>(alloc: Global, world: &World, event: &K) -> Result<Made, Halt>
     let names = event.names(alloc)?;
     check_names(alloc, world, Symbols::new(alloc), names.as_slice())?;
     let plan = event.plan(alloc, world)?;
-    carry_out(alloc, world, &plan, &event.clauses())
+    carry_out(alloc, world, plan, &event.clauses())
+}
+
+/// The lines of an accepted event: its own, and those that show what its plan makes, where they are asked for.
+fn accepted_lines<K: Kind>(
+    alloc: Global,
+    event: &K,
+    show: bool,
+    plan: &Plan,
+) -> Result<Lines, Memory>
+    ensures { IfOk result (λ lines. lines ≡ event_text (codes "ok ") (K.frame event.now) ∷ plan_lines (show && (K.frame event.now).shows) (Ok plan.now)) }
+{
+    let line = event_line(alloc, "ok ", event)?;
+    let mut lines = one_line(alloc, line)?;
+    push_shown(alloc, show && event.shows(), plan, &mut lines)?;
+    Ok(lines)
 }
 
 /// Handles an event that prints nothing, from its redundancy on; a refusal has no line yet. An accepted event is kept in the world that it makes.
@@ -118,18 +143,19 @@ pub(crate) fn handle<K: Kind>(
     world: &World,
     form: &Form,
     event: &K,
+    show: bool,
 ) -> Result<StepAnswer, Halt>
     requires form { IsProper form.now }
     requires parts { K.proper event.now }
     requires silent { (K.frame event.now).prints ≡ None }
-    ensures { Handles world.now (form_of form.now) (K.frame event.now) result }
+    ensures { Handles world.now (form_of form.now) (K.frame event.now) show result }
 {
     if is_redundant(alloc, world, form, &event.repeats())? {
         let line = event_line(alloc, "redundant ", event)?;
         return Ok(StepAnswer::Redundant(one_line(alloc, line)?));
     }
     let made = judge(alloc, world, event)?;
+    let lines = accepted_lines(alloc, event, show, &made.plan)?;
     let (next, proofs) = made.keep(alloc, form)?;
-    let line = event_line(alloc, "ok ", event)?;
-    Ok(StepAnswer::Accepted(next, one_line(alloc, line)?, proofs))
+    Ok(StepAnswer::Accepted(next, lines, proofs))
 }

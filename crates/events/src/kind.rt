@@ -5,7 +5,7 @@ ghost use Rattle.plans.specs.Plans.{IsDirect};
 ghost use Rattle.events.specs.Frames.{Frame};
 ghost use Rattle.events.specs.Laws.{IsLawful};
 ghost use Rattle.events.specs.Verdicts.{new_names};
-ghost use Rattle.events.specs.view.Halts.{Says, clauses_seen, AreProper, repeats_seen, HasProperFormula};
+ghost use Rattle.events.specs.view.Halts.{Says, clauses_seen, AreProper, repeats_seen, HasProperStatement};
 
 use crate::clauses::Clauses;
 use crate::halt::Halt;
@@ -32,6 +32,10 @@ pub trait Kind {
     fn write_title(&self, out: &mut Text) -> Result<(), Memory>
         ensures { OnOk result (out.new ≡ out.old ++ (frame self.now).title) };
 
+    /// Whether what it makes is shown behind its line, where the command asks for that.
+    fn shows(&self) -> bool
+        ensures { result ≡ (frame self.now).shows };
+
     /// Its new names, in order.
     fn names(&self, alloc: Global) -> Result<Symbols, Memory>
         ensures { IfOk result (λ names. names ≡ (frame self.now).names) };
@@ -40,7 +44,7 @@ pub trait Kind {
     fn repeats(&self) -> Repeats<'_>
         requires { proper self.now }
         ensures repeats { repeats_seen result ≡ (frame self.now).repeats }
-        ensures proper { HasProperFormula result };
+        ensures proper { HasProperStatement result };
 
     /// How its conditions are proved.
     fn clauses(&self) -> Clauses<'_>

@@ -3,19 +3,25 @@
 
 mod clauses;
 mod definitions;
+mod functions;
 mod halt;
 mod handle;
+mod instances;
+mod isomorphisms;
 mod kind;
 mod kinds;
 mod laws;
 mod lines;
 mod names;
+mod orders;
 mod owed;
 mod own;
 mod proving;
 mod redundancy;
 mod refusal;
+mod shown;
 mod steps;
+mod translated;
 
 pub use handle::{EventProofs, ProvedList};
 pub use laws::{accepted_is_sound, printed_is_true, proof_for_each, value_triples_print};

@@ -8,12 +8,18 @@ ghost use Rattle.events.specs.Steps.{IsStep};
 
 use crate::halt::Halt;
 use crate::handle::{EventProofs, handle};
+use crate::kinds::defiso::Defiso;
 use crate::kinds::defthm::Defthm;
+use crate::kinds::defthm_inst::DefthmInst;
 use crate::kinds::defun::Defun;
+use crate::kinds::defun_inst::DefunInst;
+use crate::kinds::defun_sk2::DefunSk2;
+use crate::kinds::defunvar::Defunvar;
 use crate::kinds::in_package::InPackage;
 use crate::kinds::include_book::IncludeBook;
 use crate::kinds::value_triple;
 use crate::lines::refused_lines;
+use crate::orders::Order;
 use event_forms::{Event, read_event};
 use lisp_data::{Form, Memory};
 use lisp_reader::Located;
@@ -38,31 +44,46 @@ pub enum StepAnswer {
 }
 
 /// The answer to an event, by its kind; a refusal has no line yet.
-fn answer(alloc: Global, world: &World, form: &Form) -> Result<StepAnswer, Halt>
+fn answer(alloc: Global, world: &World, form: &Form, show: bool) -> Result<StepAnswer, Halt>
     requires { IsProper form.now }
-    ensures { Answers world.now (form_of form.now) (event_of (form_of form.now)) result }
+    ensures { Answers world.now (form_of form.now) (event_of (form_of form.now)) show result }
 {
     match read_event(alloc, form)? {
-        Event::InPackage => handle(alloc, world, form, &InPackage),
-        Event::IncludeBook(book) => handle(alloc, world, form, &IncludeBook { book }),
-        Event::Defun(function) => handle(alloc, world, form, &Defun { function }),
-        Event::Defthm(theorem) => handle(alloc, world, form, &Defthm { theorem }),
+        Event::InPackage => handle(alloc, world, form, &InPackage, show),
+        Event::IncludeBook(book) => handle(alloc, world, form, &IncludeBook { book }, show),
+        Event::Defun(function) => {
+            let order = Order::First;
+            handle(alloc, world, form, &Defun { order, function }, show)
+        }
+        Event::Defun2(function) => {
+            let order = Order::Second;
+            handle(alloc, world, form, &Defun { order, function }, show)
+        }
+        Event::Defthm(theorem) => handle(alloc, world, form, &Defthm { theorem }, show),
+        Event::Defiso(iso) => handle(alloc, world, form, &Defiso { iso }, show),
+        Event::Defunvar(variable) => handle(alloc, world, form, &Defunvar { variable }, show),
+        Event::DefunSk2(specification) => {
+            handle(alloc, world, form, &DefunSk2 { specification }, show)
+        }
+        Event::DefunInst(instance) => handle(alloc, world, form, &DefunInst { instance }, show),
+        Event::DefthmInst(instance) => handle(alloc, world, form, &DefthmInst { instance }, show),
         Event::ValueTriple(part) => value_triple::print(alloc, world, part),
     }
 }
 
-/// Handles an event, which is the book's event of this index, counted from 1. The world stays as it is.
+/// Handles an event, which is the book's event of this index, counted from 1. What it makes is shown where that is asked for. The world stays
+/// as it is.
 pub fn step(
     alloc: Global,
     world: &World,
     located: &Located,
     index: u64,
-    _show: bool,
+    show: bool,
 ) -> Result<StepAnswer, Memory>
     requires { IsProper located.now.form }
-    ensures { IfOk result (IsStep world.now (form_of located.now.form) located.now.place index) }
+    ensures { IfOk result (IsStep world.now (form_of located.now.form) located.now.place index show) }
 {
-    match answer(alloc, world, &located.form) {
+    match answer(alloc, world, &located.form, show) {
         Ok(answer) => Ok(answer),
         Err(halt) => match halt {
             Halt::Refused(why) => {

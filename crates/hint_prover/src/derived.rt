@@ -31,7 +31,7 @@ pub(crate) fn forth(alloc: Global, eq: Proof, p: Proof) -> Result<Proof, Memory>
 }
 
 /// Of `(equal a b)` and b, a.
-pub(crate) fn back(alloc: Global, eq: Proof, a: &Term, p: Proof) -> Result<Proof, Memory>
+pub fn back(alloc: Global, eq: Proof, a: &Term, p: Proof) -> Result<Proof, Memory>
     ensures { IfOk result (λ it. it ≡ spec.back eq a.now p) }
 {
     let eq = turned(alloc, eq, a)?;
@@ -126,7 +126,7 @@ pub(crate) fn twice_not(alloc: Global, a: &Term) -> Result<Proof, Memory>
 }
 
 /// Of the hypothesis `(if a b 'nil)`, a.
-pub(crate) fn first_part(alloc: Global, a: &Term, b: &Term) -> Result<Proof, Memory>
+pub fn first_part(alloc: Global, a: &Term, b: &Term) -> Result<Proof, Memory>
     ensures { IfOk result (λ it. it ≡ spec.first_part a.now b.now) }
 {
     let none = quoted_nil(alloc)?;
@@ -140,7 +140,7 @@ pub(crate) fn first_part(alloc: Global, a: &Term, b: &Term) -> Result<Proof, Mem
 }
 
 /// Of the hypotheses `(if a b 'nil)` and a, b.
-pub(crate) fn second_part(alloc: Global, a: &Term, b: &Term) -> Result<Proof, Memory>
+pub fn second_part(alloc: Global, a: &Term, b: &Term) -> Result<Proof, Memory>
     ensures { IfOk result (λ it. it ≡ spec.second_part a.now b.now) }
 {
     let none = quoted_nil(alloc)?;

@@ -11,9 +11,9 @@ mod starting;
 mod trees;
 mod way_back;
 
-pub use derived::turned;
+pub use derived::{back, first_part, second_part, turned};
 pub use errors::{ProveError, Reduction};
 pub use formulas::{conditional, equation};
 pub use prover::{MAX_STEPS, checked, prove};
-pub use starting::by_calls;
-pub use trees::{cases, hyp, if_false, if_true, refl, replace};
+pub use starting::{by_calls, cut_conjunction};
+pub use trees::{by_axiom, cases, cut, hyp, if_false, if_true, refl, replace};

@@ -11,7 +11,7 @@ ghost use Rattle.reduction_proofs.specs.Start as spec;
 use crate::derived::{first_part, second_part};
 use crate::formulas::conditional;
 use crate::reasons::cited;
-use crate::trees::{cut, hyp, implies_out, induct, owed, under, universal};
+use crate::trees::{cut, hyp, implies_out, induct, instance, owed, under, universal};
 use crate::way_back::proofs;
 use hints::{Fact, Hints, Scheme, Use, as_variables, bind, calls_of, conjunction, images};
 use lisp_data::{Memory, Seq, Symbol, Symbols};
@@ -29,6 +29,7 @@ fn fact_under(alloc: Global, s: &Subst, fact: &Fact) -> Result<Proof, Memory>
     match fact {
         Fact::Axiom(number) => under(alloc, cited(alloc, &Source::Axiom(*number))?, s),
         Fact::Theorem(name) => under(alloc, cited(alloc, &Source::Theorem(name.share()?))?, s),
+        Fact::Instance(name, pairs) => under(alloc, instance(alloc, name, pairs)?, s),
         Fact::Assumed(term) => universal(alloc, term, s),
     }
 }
@@ -48,7 +49,7 @@ fn without_uses(alloc: Global, uses: &[Use], p: Proof) -> Result<Proof, Memory>
 
 /// Of a proof with the terms as hypotheses, one with their conjunction.
 #[tactic(auto, using(crate::proofs::StartLists::conjunctions))]
-fn cut_conjunction(alloc: Global, terms: &[Term], p: Proof) -> Result<Proof, Memory>
+pub fn cut_conjunction(alloc: Global, terms: &[Term], p: Proof) -> Result<Proof, Memory>
     ensures { IfOk result (λ it. it ≡ spec.cut_conjunction terms.now p) }
 {
     let mut i = terms.len();

@@ -8,7 +8,7 @@ ghost use Rattle.reduction_proofs.specs.Trees as spec;
 use lisp_data::{Memory, Seq, Symbol};
 use proof_objects::{InductionCases, Proof, Step};
 use std::alloc::Global;
-use terms::{FactName, Path, Subst, Term};
+use terms::{FactName, FunPairs, Path, Subst, Term};
 
 pub(crate) fn alone(alloc: Global, step: Step) -> Result<Proof, Memory>
     ensures { IfOk result (λ it. it ≡ conclusion.alone step) }
@@ -105,7 +105,7 @@ pub fn cases(alloc: Global, term: &Term, p: Proof, q: Proof) -> Result<Proof, Me
 }
 
 /// What `q` proves, where `p` proves one of its hypotheses.
-pub(crate) fn cut(alloc: Global, p: Proof, q: Proof) -> Result<Proof, Memory>
+pub fn cut(alloc: Global, p: Proof, q: Proof) -> Result<Proof, Memory>
     ensures { IfOk result (λ it. it ≡ spec.Cut p q) }
 {
     after_both(alloc, Step::Cut, p, q)
@@ -119,7 +119,8 @@ pub(crate) fn contradict(alloc: Global, p: Proof, q: Proof, goal: &Term) -> Resu
     after_both(alloc, Step::Contradict(goal), p, q)
 }
 
-pub(crate) fn by_axiom(alloc: Global, number: u32, s: Subst) -> Result<Proof, Memory>
+/// An axiom under a substitution.
+pub fn by_axiom(alloc: Global, number: u32, s: Subst) -> Result<Proof, Memory>
     ensures { IfOk result (λ it. it ≡ spec.Axiom number s) }
 {
     alone(alloc, Step::Axiom(number, s))
@@ -150,6 +151,15 @@ pub(crate) fn universal(alloc: Global, u: &Term, s: &Subst) -> Result<Proof, Mem
     let u = u.share()?;
     let s = s.copy(alloc)?;
     alone(alloc, Step::Universal(u, s))
+}
+
+/// A theorem with functions in the place of function variables.
+pub(crate) fn instance(alloc: Global, name: &Symbol, pairs: &FunPairs) -> Result<Proof, Memory>
+    ensures { IfOk result (λ it. it ≡ spec.Instance name.now pairs.now) }
+{
+    let name = name.share()?;
+    let pairs = pairs.copy(alloc)?;
+    alone(alloc, Step::Instance(FactName::Theorem(name), pairs))
 }
 
 /// What the measure of a function owes.

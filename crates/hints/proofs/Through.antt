@@ -1,5 +1,5 @@
 -- Forms that are read one after the other.
-use Rattle.std.proofs.Common.{◌≡◌, ℕ, ℤ, ◌+◌, ◌<◌, ◌≤◌, List, [], ◌∷◌, length, get_or, map, drop, Ok, Option, Global, refl, ap, sym, ◌∙◌, arith}
+use Rattle.std.proofs.Common.{◌≡◌, ℕ, ℤ, ◌+◌, ◌<◌, ◌≤◌, List, [], ◌∷◌, length, get_or, map, drop, Ok, Option, Global, refl, ap, sym, ◌∙◌, subst, arith}
 use Rattle.std.proofs.lemmas.List.{drop_all, drop_more}
 use Rattle.std.specs.declared.rc.Rc.{Rc}
 use Rattle.lisp_data.specs.Datum.{Datum, chain}
@@ -16,8 +16,8 @@ use Rattle.term_forms.specs.Translation.{Outcome, and_then}
 use Rattle.proof_texts.proofs.ItemLemmas.{proper_at}
 use Rattle.hints.specs.declared.errors.HintError.{HintError}
 use Rattle.hints.specs.declared.errors.HintError.TheVariants.{Refused, Memory}
-use Rattle.hints.specs.Refused.{IsRefusal, bad_hint, not_built}
-use Rattle.hints.specs.Steps.{through, by_number, by_name, cited_in, use_by}
+use Rattle.hints.specs.Refused.{IsRefusal, bad_hint}
+use Rattle.hints.specs.Steps.{through, by_number, by_name, instance_in, cited_in, use_by}
 
 module _ {S : Type 0} (f : S → Datum → Outcome S) where
   through-item : (xs : List Form) (i : ℕ) (d : Form) (s : S) → i < length xs → through f s (map form_of (drop i xs)) ≡ and_then (f s (form_of (get_or xs i d))) (λ t. through f t (map form_of (drop (i + 1) xs)))
@@ -36,12 +36,14 @@ module _ {S : Type 0} (f : S → Datum → Outcome S) where
 
 pub ruleset through_forms = (through-step, through-end, through-refused, proper_at)
 
-listed_fact : (W : World) (us : List Tm) (xs : List Form) (end : Datum) → 0 < length xs → cited_in W us (chain (map form_of xs) end) ≡ not_built
+listed_fact : (W : World) (us : List Tm) (xs : List Form) (end : Datum) → 0 < length xs → cited_in W us (chain (map form_of xs) end) ≡ instance_in W us (chain (map form_of xs) end)
 listed_fact W us [] end h = absurd (omega arith)
 listed_fact W us (x ∷ xs) end h = refl
 
-pub cited_in-list : (W : World) (us : List Tm) (fs : Forms) (t : Option (Rc Form Global)) → IsProper (Listed fs t) → cited_in W us (form_of (Listed fs t)) ≡ not_built
-cited_in-list W us fs t h = ap (cited_in W us) (form_of-listed fs t) ∙ listed_fact W us (held_by fs) (end_of t) (proper-list fs t h).some
+pub cited_in-list : (W : World) (us : List Tm) (fs : Forms) (t : Option (Rc Form Global)) → IsProper (Listed fs t) →
+    cited_in W us (form_of (Listed fs t)) ≡ instance_in W us (form_of (Listed fs t))
+cited_in-list W us fs t h =
+    subst (λ d. cited_in W us d ≡ instance_in W us d) (sym (form_of-listed fs t)) (listed_fact W us (held_by fs) (end_of t) (proper-list fs t h).some)
 
 pub cited_in-int : (W : World) (us : List Tm) (z : ℤ) → cited_in W us (form_of (Int z)) ≡ by_number W z
 cited_in-int W us z = ap (cited_in W us) (form_of-int z)

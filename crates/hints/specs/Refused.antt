@@ -2,18 +2,16 @@
 use Rattle.std.specs.Prelude.{◌≡◌, codes, Option, Some, None, Result, Ok, Err}
 use Rattle.lisp_data.specs.Values.{Name}
 use Rattle.lisp_data.specs.declared.code.Code.{Code}
-use Rattle.lisp_data.specs.declared.code.Code.TheVariants.{NotAnEvent, BadForm, UnknownName, WrongArity, NotAFunction}
+use Rattle.lisp_data.specs.declared.code.Code.TheVariants.{BadForm, UnknownName, WrongArity, NotAFunction}
 use Rattle.lisp_data.specs.declared.detail.Detail.{Detail}
 use Rattle.lisp_data.specs.declared.detail.Detail.TheVariants as detail
 use Rattle.term_forms.specs.Translation.{Outcome}
 use Rattle.term_forms.specs.declared.translation.TermError.{TermError}
 use Rattle.term_forms.specs.declared.translation.TermError.TheVariants as term
+use Rattle.soft_vars.specs.declared.errors.SoftError.{SoftError}
+use Rattle.soft_vars.specs.declared.errors.SoftError.TheVariants as soft
 use Rattle.hints.specs.declared.errors.HintError.{HintError}
 use Rattle.hints.specs.declared.errors.HintError.TheVariants.{Refused, Memory}
-
--- a step that isn't built yet
-abbrev pub not_built : {A : Type 0} → Outcome A
-not_built = Err (NotAnEvent, detail.Absent)
 
 -- a step of another shape
 abbrev pub bad_hint : {A : Type 0} → Outcome A
@@ -55,3 +53,8 @@ IsError code detail Memory = Unit {0}
 abbrev pub IsFrom : TermError → HintError → Type 0
 IsFrom (term.Refused code detail) e = e ≡ Refused code detail
 IsFrom term.Memory e = e ≡ Memory
+
+-- a refusal of pairs as a hint's
+abbrev pub IsFromPairs : SoftError → HintError → Type 0
+IsFromPairs (soft.Refused code detail) e = e ≡ Refused code detail
+IsFromPairs soft.Memory e = e ≡ Memory

@@ -12,11 +12,14 @@ use Rattle.terms.specs.Evaluation.{then_with}
 use Rattle.terms.specs.Worlds.{World, arity, is_in}
 use Rattle.terms.specs.declared.definition.Definition.{Definition}
 use Rattle.terms.specs.declared.sequent.Sequent.{Sequent}
+use Rattle.terms.specs.declared.entries.FunPair.{FunPair}
 use Rattle.terms.specs.declared.entries.Specification.{Specification}
+use Rattle.terms.specs.Instances.{instance_map, sequent_terms, renamed_sequent}
 use Rattle.term_forms.specs.Names.{is_variable_name}
 use Rattle.term_forms.specs.Translation.{Outcome, and_then, map_outcome, translate}
 use Rattle.worlds.specs.Lookups.{find_spec}
 use Rattle.proof_texts.specs.Items.{items_of, symbol_of, is_word}
+use Rattle.proof_texts.specs.Parts.{two_symbols}
 use Rattle.reduction.specs.declared.found.Source.{Source}
 use Rattle.reduction.specs.declared.found.Source.TheVariants.{Axiom as AxiomSource, Theorem as TheoremSource}
 use Rattle.reduction.specs.declared.kinds.How.{How}
@@ -24,9 +27,9 @@ use Rattle.reduction.specs.declared.rules.Rule.{Rule}
 use Rattle.reduction.specs.Hyps.{has}
 use Rattle.hints.specs.Facts.{says, all_in, built_in}
 use Rattle.hints.specs.Formulas.{rule_of}
-use Rattle.hints.specs.Refused.{bad_hint, not_built, unknown_name, wrong_kind, wrong_arity, or_bad}
+use Rattle.hints.specs.Refused.{bad_hint, unknown_name, wrong_kind, wrong_arity, or_bad}
 use Rattle.hints.specs.declared.hint.Fact.{Fact}
-use Rattle.hints.specs.declared.hint.Fact.TheVariants.{Axiom, Theorem, Assumed}
+use Rattle.hints.specs.declared.hint.Fact.TheVariants.{Axiom, Theorem, Instance, Assumed}
 use Rattle.hints.specs.declared.hint.Cited.{Cited}
 use Rattle.hints.specs.declared.hint.Use.{Use}
 use Rattle.hints.specs.declared.hint.Scheme.{Scheme}
@@ -109,7 +112,7 @@ scheme_by W (Some (f ∷ xs)) = and_then (name_of f) (λ f. and_then (through wi
 abbrev pub scheme_of : World → Datum → Outcome Scheme
 scheme_of W d = scheme_by W (items_of d)
 
--- `:use`: an axiom, a theorem or an assumed specification, and terms for variables
+-- `:use`: an axiom, a theorem, a function instance of one or an assumed specification, and terms for variables
 abbrev pub cited : Fact → Tm → Cited
 cited f t = record { fact = f; formula = t }
 
@@ -132,12 +135,35 @@ abbrev pub by_name : World → List Tm → Name → Option Sequent → Outcome C
 by_name W us n None = assumed us n (find_spec W.specifications n)
 by_name W us n (Some s) = if all_in us s.universals then Ok (cited (Theorem n) s.goal) else bad_hint
 
--- a function instance of a theorem isn't built yet
+-- `(?f . g)`, after the pairs before it
+abbrev pub with_function : List FunPair → Datum → Outcome (List FunPair)
+with_function pairs d = map_outcome (λ p. pairs ++ record { variable = p.0; function = p.1 } ∷ []) (or_bad (two_symbols d))
+
+-- a theorem with functions in the place of function variables, where the universals that it then has are among the condition's
+abbrev pub instance_with : List Tm → Name → List FunPair → Sequent → Outcome Cited
+instance_with us n pairs s = if all_in us s.universals then Ok (cited (Instance n pairs) s.goal) else bad_hint
+
+abbrev pub instance_by : World → List Tm → Name → List FunPair → Sequent → Outcome Cited
+instance_by W us n pairs s = and_then (instance_map W (sequent_terms s) pairs) (λ m. instance_with us n pairs (renamed_sequent m s))
+
+abbrev pub instance_of : World → List Tm → Name → List Datum → Option Sequent → Outcome Cited
+instance_of W us n ds None = unknown_name n
+instance_of W us n ds (Some s) = and_then (through with_function [] ds) (λ pairs. instance_by W us n pairs s)
+
+-- `(n (?f . g) ..)`
+abbrev pub instance_from : World → List Tm → Option (List Datum) → Outcome Cited
+instance_from W us None = bad_hint
+instance_from W us (Some []) = bad_hint
+instance_from W us (Some (n ∷ ds)) = and_then (name_of n) (λ n. instance_of W us n ds (lookup W.theorems n))
+
+abbrev pub instance_in : World → List Tm → Datum → Outcome Cited
+instance_in W us d = instance_from W us (items_of d)
+
 abbrev pub cited_in : World → List Tm → Datum → Outcome Cited
 cited_in W us (IntForm z) = by_number W z
 cited_in W us (SymForm n) = by_name W us n (lookup W.theorems n)
 cited_in W us (TextForm s) = bad_hint
-cited_in W us (PairForm a d) = not_built
+cited_in W us (PairForm a d) = instance_in W us (PairForm a d)
 
 -- a variable that has no term yet
 abbrev pub new_variable : Pairs → Datum → Outcome Name

@@ -1,6 +1,7 @@
 //! Why a text is no hint.
 
 use lisp_data::{Code, Detail, Memory, Symbol};
+use soft_vars::SoftError;
 use std::alloc::Global;
 use term_forms::TermError;
 
@@ -14,19 +15,9 @@ pub enum HintError {
 
 impl HintError {
     ghost use Rattle.std.specs.Prelude.{codes};
-    ghost use Rattle.lisp_data.specs.declared.code.Code.TheVariants.{NotAnEvent, BadForm, UnknownName, WrongArity, NotAFunction};
-    ghost use Rattle.lisp_data.specs.declared.detail.Detail.TheVariants.{Absent, Name};
+    ghost use Rattle.lisp_data.specs.declared.code.Code.TheVariants.{BadForm, UnknownName, WrongArity, NotAFunction};
+    ghost use Rattle.lisp_data.specs.declared.detail.Detail.TheVariants.{Name};
     ghost use Rattle.hints.specs.Refused.{IsError};
-
-    /// The step isn't built yet.
-    pub(crate) fn not_built() -> HintError
-        ensures { IsError NotAnEvent Absent result }
-    {
-        HintError::Refused {
-            code: Code::NotAnEvent,
-            detail: Detail::Absent,
-        }
-    }
 
     fn with_name(code: Code, name: &Symbol) -> HintError
         ensures { IsError code (Name name.now) result }
@@ -93,6 +84,19 @@ impl From<TermError> for HintError {
         match error {
             TermError::Refused { code, detail } => HintError::Refused { code, detail },
             TermError::Memory => HintError::Memory,
+        }
+    }
+}
+
+impl From<SoftError> for HintError {
+    ghost use Rattle.hints.specs.Refused.{IsFromPairs};
+
+    ghost from_gives = { λ s e. IsFromPairs s e };
+
+    fn from(error: SoftError) -> HintError {
+        match error {
+            SoftError::Refused { code, detail } => HintError::Refused { code, detail },
+            SoftError::Memory => HintError::Memory,
         }
     }
 }

@@ -2,7 +2,7 @@
 
 use lisp_data::{Seq, Symbol, Symbols};
 use reduction::How;
-use terms::{Subst, Term};
+use terms::{FunPairs, Subst, Term};
 
 /// Induction by the recursive definition of a function, on variables.
 #[derive(Drop)]
@@ -17,6 +17,8 @@ pub enum Fact {
     /// The axiom with this number.
     Axiom(u32),
     Theorem(Symbol),
+    /// A theorem with functions in the place of function variables.
+    Instance(Symbol, FunPairs),
     /// The matrix of a specification, which is a universal of the condition.
     Assumed(Term),
 }

@@ -12,11 +12,13 @@ use crate::facts::{Facts, all_in, says};
 use crate::formulas::rule_of;
 use crate::hint::{Cited, Fact, Scheme, Use};
 use lisp_data::{Form, Symbol, Symbols};
-use proof_texts::{contains, items, symbol};
+use proof_texts::{contains, items, symbol, two_symbols};
 use reduction::{Rules, Source, has, mentions};
+use sequents::{renamed, terms_of};
+use soft_vars::instance_map;
 use std::alloc::Global;
 use term_forms::{Scope, is_variable_name, translate};
-use terms::{Definition, Node, Subst, Term, Terms, substitute};
+use terms::{Definition, FunPair, FunPairs, Node, Sequent, Subst, Term, Terms, substitute};
 use worlds::World;
 
 fn read_name(alloc: Global, form: &Form) -> Result<&Symbol, HintError>
@@ -316,6 +318,71 @@ fn by_number(alloc: Global, world: &World, number: i128) -> Result<Cited, HintEr
     }
 }
 
+/// `(?f . g)`: a function for a function variable.
+fn add_function(alloc: Global, form: &Form, pairs: &mut FunPairs) -> Result<(), HintError>
+    requires { IsProper form.now }
+    ensures { Says (λ _. pairs.new) (spec.with_function pairs.old (form_of form.now)) result }
+{
+    let Some((variable, function)) = two_symbols(form) else {
+        return Err(HintError::bad_hint(alloc));
+    };
+    let variable = variable.share()?;
+    let function = function.share()?;
+    pairs.push(FunPair { variable, function })?;
+    Ok(())
+}
+
+#[tactic(auto, using(crate::proofs::Through::through_forms))]
+fn read_functions(alloc: Global, forms: &[Form]) -> Result<FunPairs, HintError>
+    requires { AllProper forms.now }
+    ensures { Says (λ pairs. pairs) (spec.through spec.with_function [] (map form_of forms.now)) result }
+{
+    let mut pairs = FunPairs::new(alloc);
+    for form in forms {
+        add_function(alloc, form, &mut pairs)?;
+    }
+    Ok(pairs)
+}
+
+/// A theorem with functions in the place of function variables.
+fn instance_by(
+    alloc: Global,
+    facts: &Facts<'_>,
+    name: &Symbol,
+    pairs: FunPairs,
+    theorem: &Sequent,
+) -> Result<Cited, HintError>
+    ensures { Says (λ c. c) (spec.instance_by facts.now.world.now facts.now.universals.now name.now pairs theorem.now) result }
+{
+    let terms = terms_of(alloc, theorem)?;
+    let map = instance_map(alloc, facts.world, &terms, &pairs)?;
+    let instance = renamed(alloc, theorem, &map)?;
+    if !all_in(facts.universals.as_slice(), instance.universals.as_slice()) {
+        return Err(HintError::bad_hint(alloc));
+    }
+    Ok(Cited {
+        fact: Fact::Instance(name.share()?, pairs),
+        formula: instance.goal.share()?,
+    })
+}
+
+/// `(n (?f . g) ..)`: a function instance of a theorem.
+fn read_instance(alloc: Global, facts: &Facts<'_>, form: &Form) -> Result<Cited, HintError>
+    requires { IsProper form.now }
+    ensures { Says (λ c. c) (spec.instance_in facts.now.world.now facts.now.universals.now (form_of form.now)) result }
+{
+    let Some([name, pairs @ ..]) = items(form) else {
+        return Err(HintError::bad_hint(alloc));
+    };
+    let name = read_name(alloc, name)?;
+    let Some(theorem) = facts.world.find_theorem(name) else {
+        return Err(HintError::unknown_name(name));
+    };
+    let pairs = read_functions(alloc, pairs)?;
+    let cited = instance_by(alloc, facts, name, pairs, theorem)?;
+    Ok(cited)
+}
+
 /// What a step `:use` names.
 #[tactic(auto, using(crate::proofs::Through::shapes))]
 fn read_cited(alloc: Global, facts: &Facts<'_>, form: &Form) -> Result<Cited, HintError>
@@ -332,7 +399,10 @@ fn read_cited(alloc: Global, facts: &Facts<'_>, form: &Form) -> Result<Cited, Hi
             Ok(cited)
         }
         Form::Text(_) => Err(HintError::bad_hint(alloc)),
-        Form::List(_, _) => Err(HintError::not_built()),
+        Form::List(_, _) => {
+            let cited = read_instance(alloc, facts, form)?;
+            Ok(cited)
+        }
     }
 }
 

@@ -6,10 +6,10 @@ use Rattle.terms.specs.declared.sequent.Sequent.{Sequent}
 use Rattle.terms.proofs.Below.{Any}
 use Rattle.terms.proofs.Extend.{over_map}
 use Rattle.terms.proofs.Lists.{each_join}
-use Rattle.terms.proofs.Later.{later_worlds_keep}
-use Rattle.soft_vars.specs.Instances.{called, sequent_terms}
+use Rattle.terms.proofs.Later.{vars_apart, later_worlds_keep}
+use Rattle.terms.specs.Instances.{called, sequent_terms}
 use Rattle.instance_laws.specs.Laws.{MapsStay}
-use Rattle.instance_laws.proofs.Stay.{HasArity, all_calls_each, map_later}
+use Rattle.terms.proofs.RecordsStay.{HasArity, all_calls_each, map_later}
 
 -- the names that well-formed terms call are functions of the world
 each_has : (F : Functions) (ts : List Tm) → Each (Fits F) ts → OverAll Any (λ g k. HasArity F g) (tms ts)
@@ -23,5 +23,5 @@ pub maps_stay : MapsStay
 maps_stay W V sound sound_later later s f pairs m e =
     let F = W.functions in
     let ts = sequent_terms s in
-    map_later W V sound sound_later (later_worlds_keep W V sound sound_later later) later.instances pairs [] m (called ts)
+    map_later W V (vars_apart W sound) (vars_apart V sound_later) (later_worlds_keep W V sound sound_later later) later.instances pairs [] m (called ts)
     (all_calls_each (HasArity F) (tms ts) (each_has F ts (sequent_fits F s f)) [] tt) e

@@ -6,6 +6,5 @@ pub mod Sequents
 pub mod Renaming
 pub mod Owed
 pub mod Owes
-pub mod Stay
 pub mod LaterMaps
 pub mod Grow

@@ -6,10 +6,10 @@ use Rattle.terms.specs.Primitives.{lookup}
 use Rattle.terms.specs.Worlds.{World, Instance, is_in}
 use Rattle.terms.specs.declared.entries.FunPair.{FunPair}
 use Rattle.terms.proofs.Names.{same_name, name_self}
-use Rattle.worlds.specs.Lookups.{same_pair, has_pair, has_pairs, same_pairs, find_instance}
-use Rattle.soft_vars.specs.Maps.{HasDistinctNames}
-use Rattle.soft_vars.specs.Pairs.{name_pairs}
-use Rattle.soft_vars.specs.Instances.{restricted, recorded}
+use Rattle.terms.specs.Records.{same_pair, has_pair, has_pairs, same_pairs, find_instance}
+use Rattle.terms.specs.Maps.{HasDistinctNames}
+use Rattle.terms.specs.Pairs.{name_pairs}
+use Rattle.terms.specs.Instances.{restricted, recorded}
 
 -- the pair of these names is among them
 abbrev pub has_named : List FunPair → Name → Name → Bool

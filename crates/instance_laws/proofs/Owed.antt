@@ -18,9 +18,9 @@ use Rattle.terms.proofs.Meaning.{found_free, arity_defined}
 use Rattle.terms.proofs.Basics.{is_less}
 use Rattle.terms.proofs.Growth.{free_primitive}
 use Rattle.terms.proofs.Totality.{each_to, each_of_map, over_substitute}
-use Rattle.soft_vars.specs.Maps.{NamePairs, or_name, image, rename, rename_all, renamed}
+use Rattle.terms.specs.Maps.{NamePairs, or_name, image, rename, rename_all, renamed}
 use Rattle.instance_laws.specs.Closed.{CallsOnly, IsClosed, KeepsArities}
-use Rattle.instance_laws.proofs.Formed.{IsFoundFormed}
+use Rattle.terms.proofs.Found.{IsFoundFormed}
 use Rattle.instance_laws.proofs.Sequents.{SequentCallsOnly, rename-count, each_mapped, each_once, once_each, image_arity, instance_true, instance_holds}
 use Rattle.instance_laws.proofs.Renaming.{CallOver, calls_over, rename_substitute, image_other, rename_lacks, rename_all_lacks, same_mentions, same_nested, Refine, AllRefine, calls_refine}
 

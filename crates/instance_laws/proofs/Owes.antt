@@ -18,10 +18,10 @@ use Rattle.terms.proofs.Extend.{body_fits}
 use Rattle.terms.proofs.Meaning.{found_free, arity_defined}
 use Rattle.terms.proofs.Basics.{is_less}
 use Rattle.terms.proofs.Later.{vars_apart, has_basics, sound_worlds_keep_initial}
-use Rattle.soft_vars.specs.Maps.{renamed}
-use Rattle.soft_vars.specs.Instances.{restricted, own_pairs, AreRecorded}
+use Rattle.terms.specs.Maps.{renamed}
+use Rattle.terms.specs.Instances.{restricted, own_pairs}
 use Rattle.instance_laws.specs.Laws.{InstancesOwe, InstanceOfDefinition}
-use Rattle.instance_laws.proofs.Formed.{IsFoundFormed, found_formed, each_found}
+use Rattle.terms.proofs.Found.{IsFoundFormed, found_formed, each_found}
 use Rattle.instance_laws.proofs.Parts.{whole_map, whole_list, in_whole, whole_closed, whole_keeps, whole_stays, whole_covers, AreGood, IsCovered, InstanceMade, instance_made}
 use Rattle.instance_laws.proofs.Owed.{Listed, Known, CanInstantiate, instance_formed, instance_owes}
 
@@ -68,7 +68,7 @@ not_the_same ds d found recursive f e there flat =
     let now : mentions e.name e.body ≡ true = subst (λ (z : Definition). mentions z.name z.body ≡ true) is recursive in
     absurd (cc))
 
-module _ (W : World) (sound : Sound W) (right : AreRecorded W) (d : Definition) (found : find W.functions.defs d.name ≡ Some d) (pairs : List FunPair) (name : Name) (fresh : arity W.functions name ≡ None) (i : Definition) (is : InstanceMade W d pairs name i) where
+module _ (W : World) (sound : Sound W) (d : Definition) (found : find W.functions.defs d.name ≡ Some d) (pairs : List FunPair) (name : Name) (fresh : arity W.functions name ≡ None) (i : Definition) (is : InstanceMade W d pairs name i) where
   abbrev F : Functions
   F = W.functions
 
@@ -76,9 +76,9 @@ module _ (W : World) (sound : Sound W) (right : AreRecorded W) (d : Definition) 
   good = is.good
 
   abbrev list : List Name
-  list = whole_list W sound right pairs is.good
+  list = whole_list W sound pairs is.good
 
-  can : CanInstantiate W.functions (whole_list W sound right pairs is.good) d
+  can : CanInstantiate W.functions (whole_list W sound pairs is.good) d
   can = record {
     found = found;
     formed = known;
@@ -89,8 +89,8 @@ module _ (W : World) (sound : Sound W) (right : AreRecorded W) (d : Definition) 
       known : IsFoundFormed W.functions d
       known = found_formed W.functions.vars W.functions.defs sound.formed d.name d found
 
-      listed_here : (g : Name) (k : ℕ) → arity W.functions g ≡ Some k → bytes_eq d.name g ≡ false → IsCovered W pairs g → Listed W.functions (whole_list W sound right pairs is.good) d.name g k
-      listed_here g k a apart c = record { other = apart; fits = a; inside = λ e h. in_whole W sound right pairs is.good g e h c }
+      listed_here : (g : Name) (k : ℕ) → arity W.functions g ≡ Some k → bytes_eq d.name g ≡ false → IsCovered W pairs g → Listed W.functions (whole_list W sound pairs is.good) d.name g k
+      listed_here g k a apart c = record { other = apart; fits = a; inside = λ e h. in_whole W sound pairs is.good g e h c }
 
   primitive_other : (g : Name) (p : Operation) → primitive g ≡ Some p → bytes_eq d.name g ≡ false
   primitive_other g p e = name_apart d.name g (λ same. let n = subst (λ x. primitive x ≡ None) same (found_free F.vars F.defs sound.formed d.name d found) in absurd (cc))
@@ -99,20 +99,20 @@ module _ (W : World) (sound : Sound W) (right : AreRecorded W) (d : Definition) 
   nothing_own : (f : Name) (e : Definition) → find initial_definitions f ≡ Some e → own_pairs W pairs f ≡ []
   nothing_own f e h = ap (restricted pairs) ((sound_worlds_keep_initial W sound).independent f e h) ∙ restricted-none pairs
 
-  word : (f : Name) (e : Definition) (k : ℕ) → find initial_definitions f ≡ Some e → arity W.functions f ≡ Some k → bytes_eq d.name f ≡ false → Listed W.functions (whole_list W sound right pairs is.good) d.name f k
-  word f e k h a apart = record { other = apart; fits = a; inside = λ e' there. in_whole W sound right pairs is.good f e' there (whole_covers W sound right pairs is.good f (nothing_own f e h)) }
+  word : (f : Name) (e : Definition) (k : ℕ) → find initial_definitions f ≡ Some e → arity W.functions f ≡ Some k → bytes_eq d.name f ≡ false → Listed W.functions (whole_list W sound pairs is.good) d.name f k
+  word f e k h a apart = record { other = apart; fits = a; inside = λ e' there. in_whole W sound pairs is.good f e' there (whole_covers W sound pairs is.good f (nothing_own f e h)) }
 
   owes : ObligationsHold W.functions (renamed ((d.name, name) ∷ whole_map W pairs) name d)
   owes =
-      instance_owes F sound.formed sound.total (vars_apart W sound) (whole_map W pairs) list (whole_closed W sound right pairs is.good) (whole_keeps W sound right pairs is.good) d can name fresh
+      instance_owes F sound.formed sound.total (vars_apart W sound) (whole_map W pairs) list (whole_closed W sound pairs is.good) (whole_keeps W sound pairs is.good) d can name fresh
       (each_found (λ e. AllHold F (obligations e)) F.defs sound.obligations d.name d found)
       (λ recursive. (
         primitive_other (codes "IF") _ is_if,
         primitive_other (codes "<") _ is_less,
         word (codes "NOT") not_def 1 initial_not (arity_defined F sound.formed (codes "NOT") not_def basics.has_not) (not_the_same F.defs d found recursive (codes "NOT") not_def basics.has_not not_flat),
         word (codes "NATP") natp_def 1 initial_natp (arity_defined F sound.formed (codes "NATP") natp_def basics.has_natp) (not_the_same F.defs d found recursive (codes "NATP") natp_def basics.has_natp natp_flat),
-        whole_stays W sound right pairs is.good (codes "NOT") not_def basics.has_not (nothing_own (codes "NOT") not_def initial_not),
-        whole_stays W sound right pairs is.good (codes "NATP") natp_def basics.has_natp (nothing_own (codes "NATP") natp_def initial_natp),
+        whole_stays W sound pairs is.good (codes "NOT") not_def basics.has_not (nothing_own (codes "NOT") not_def initial_not),
+        whole_stays W sound pairs is.good (codes "NATP") natp_def basics.has_natp (nothing_own (codes "NATP") natp_def initial_natp),
       ))
     where
       basics : HasBasics W.functions
@@ -120,9 +120,9 @@ module _ (W : World) (sound : Sound W) (right : AreRecorded W) (d : Definition) 
 
   pub owes_what_holds : InstanceOfDefinition W i
   owes_what_holds = record {
-    formed = subst (IsFormed F) (sym is.is) (instance_formed F sound.formed sound.total (vars_apart W sound) (whole_map W pairs) list (whole_closed W sound right pairs is.good) (whole_keeps W sound right pairs is.good) d can name fresh);
+    formed = subst (IsFormed F) (sym is.is) (instance_formed F sound.formed sound.total (vars_apart W sound) (whole_map W pairs) list (whole_closed W sound pairs is.good) (whole_keeps W sound pairs is.good) d can name fresh);
     owes = subst (ObligationsHold F) (sym is.is) owes;
   }
 
 pub instances_owe : InstancesOwe
-instances_owe W sound right d found pairs name fresh i e = owes_what_holds W sound right d found pairs name fresh i (instance_made W sound d pairs name i e)
+instances_owe W sound d found pairs name fresh i e = owes_what_holds W sound d found pairs name fresh i (instance_made W sound d pairs name i e)

@@ -1,6 +1,6 @@
--- The map that pairs give in a sound world with right records is part of one that is closed under calls: the table of all definitions, each
+-- The map that pairs give in a sound world is part of one that is closed under calls: the table of all definitions, each
 -- with its recorded instance for its own pairs, and of the pairs.
-use Rattle.std.proofs.Common.{◌≡◌, ℕ, Bool, true, false, cond, ◌||◌, List, [], ◌∷◌, ◌++◌, is_some, bytes_eq, Option, Some, None, IfSome, Ok, Err, refl, sym, ap, ap₂, ◌∙◌, subst}
+use Rattle.std.proofs.Common.{◌≡◌, ℕ, Bool, true, false, cond, ◌||◌, List, [], ◌∷◌, ◌++◌, is_some, bytes_eq, Option, Some, None, IfSome, Ok, refl, sym, ap, ap₂, ◌∙◌, subst}
 use Rattle.std.proofs.lemmas.Bool.{and_parts, and_from}
 use Rattle.std.specs.Option.{option_map}
 use Rattle.lisp_data.specs.Values.{Name}
@@ -17,21 +17,21 @@ use Rattle.terms.proofs.Below.{Any}
 use Rattle.terms.proofs.Extend.{over_map}
 use Rattle.terms.proofs.Meaning.{found_free}
 use Rattle.terms.proofs.Later.{vars_apart}
-use Rattle.worlds.specs.Lookups.{same_pairs, is_instance, find_instance}
-use Rattle.soft_vars.specs.Maps.{NamePairs, HasDistinctNames, or_name, image, rename, rename_all, renamed}
-use Rattle.soft_vars.specs.Refusals.{Outcome, map_outcome}
-use Rattle.soft_vars.specs.Pairs.{with_pairs, name_pairs, IsFitting}
-use Rattle.soft_vars.specs.Instances.{with_instances, called, listed, own_pairs, recorded, map_from, parts, function_instance, IsRecorded, AreRecorded}
+use Rattle.terms.specs.Records.{same_pairs, is_instance, find_instance}
+use Rattle.terms.specs.Maps.{NamePairs, HasDistinctNames, or_name, image, rename, rename_all, renamed}
+use Rattle.terms.specs.Pairs.{with_pairs, name_pairs, IsFitting}
+use Rattle.terms.specs.Instances.{with_instances, called, listed, own_pairs, recorded, map_from, parts, function_instance, IsRecorded}
 use Rattle.soft_vars.specs.Laws.{GivesInstances}
 use Rattle.soft_vars.proofs.Depends.{not_defined}
-use Rattle.soft_vars.proofs.Keys.{lookup-behind}
-use Rattle.soft_vars.proofs.Fitting.{then_ok, ok_inj, pairs_fit}
+use Rattle.terms.proofs.MapKeys.{lookup-behind}
+use Rattle.terms.proofs.Fitting.{then_ok, map_ok, pairs_fit}
 use Rattle.soft_vars.proofs.Maps.{maps_give_instances}
 use Rattle.soft_vars.proofs.Calls.{calls_are_called}
 use Rattle.instance_laws.specs.Closed.{HasImage, IsClosed, KeepsArities}
 use Rattle.instance_laws.specs.Laws.{MapsArePart}
 use Rattle.instance_laws.proofs.Members.{has_named, Alike, alike, recorded_alike, no_pairs, has_restricted, has_looked_up, looked_up}
-use Rattle.instance_laws.proofs.Formed.{over_both, found_name, DependsOnNoMore, callees_depend}
+use Rattle.terms.proofs.Found.{found_name}
+use Rattle.instance_laws.proofs.Formed.{over_both, DependsOnNoMore, callees_depend}
 
 -- what a function becomes for its own pairs, if it has what it needs
 abbrev pub instance_name : World → List FunPair → Name → Option Name
@@ -292,10 +292,6 @@ pub record InstanceMade (W : World) (d : Definition) (pairs : List FunPair) (nam
   pub body_covered : Over Any (λ g k. bytes_eq d.name g ≡ false → IsCovered W pairs g) d.body
   pub measure_covered : IfSome d.measure (Over Any (λ g k. bytes_eq d.name g ≡ false → IsCovered W pairs g))
 
-pub map_ok : {A B : Type 0} (f : A → B) (o : Outcome A) (y : B) → map_outcome f o ≡ Ok y → (x : A) × (o ≡ Ok x) × (f x ≡ y)
-map_ok f (Ok x) y e = (x, refl, ok_inj e)
-map_ok f (Err r) y e = absurd (cc)
-
 module _ (W : World) (sound : Sound W) (d : Definition) (pairs : List FunPair) (name : Name) where
   abbrev begun : NamePairs
   begun = (d.name, name) ∷ []
@@ -417,7 +413,7 @@ module _ (W : World) (sound : Sound W) (pairs : List FunPair) (good : AreGood W 
   covered_same c = record { covers = λ d h. ap is_some (sym names_same) ∙ c.covers d h }
 
 -- each function that has what it needs has an image, and so do its callees
-module _ (W : World) (sound : Sound W) (right : AreRecorded W) (pairs : List FunPair) (good : AreGood W pairs) (f : Name) (d : Definition) (found : find W.functions.defs f ≡ Some d) (covered : is_some (instance_name W pairs f) ≡ true) where
+module _ (W : World) (sound : Sound W) (pairs : List FunPair) (good : AreGood W pairs) (f : Name) (d : Definition) (found : find W.functions.defs f ≡ Some d) (covered : is_some (instance_name W pairs f) ≡ true) where
   record IsImaged : Type 0 where
     image_there : HasImage W.functions.defs (whole_map W pairs) f d
     callees : Over Any (λ g k. IsCovered W pairs g) d.body
@@ -483,13 +479,13 @@ module _ (W : World) (sound : Sound W) (right : AreRecorded W) (pairs : List Fun
       by_record : (p : FunPair) (ps : List FunPair) → own_pairs W pairs f ≡ p ∷ ps → (o : Option Name) → find_instance W.instances f (p ∷ ps) ≡ o → is_some o ≡ true → IsImaged
       by_record p ps h None q s = absurd (cc)
       by_record p ps h (Some g') q s =
-          with_record g' (ap (recorded W f) h ∙ q) (find_right W sound W.instances right f d found (own_pairs W pairs f) g' (ap (find_instance W.instances f) h ∙ q))
+          with_record g' (ap (recorded W f) h ∙ q) (find_right W sound W.instances sound.instances f d found (own_pairs W pairs f) g' (ap (find_instance W.instances f) h ∙ q))
 
       by_pairs : (l : List FunPair) → own_pairs W pairs f ≡ l → is_some (recorded W f l) ≡ true → IsImaged
       by_pairs [] h s = no_need h
       by_pairs (p ∷ ps) h s = by_record p ps h (find_instance W.instances f (p ∷ ps)) refl s
 
-module _ (W : World) (sound : Sound W) (right : AreRecorded W) (pairs : List FunPair) (good : AreGood W pairs) where
+module _ (W : World) (sound : Sound W) (pairs : List FunPair) (good : AreGood W pairs) where
   pub whole_list : List Name
   whole_list = listed_of W sound pairs good W.functions.defs
 
@@ -501,8 +497,8 @@ module _ (W : World) (sound : Sound W) (right : AreRecorded W) (pairs : List Fun
   unfolding whole_list
   whole_closed = record {
     primitives = primitives_stay W sound pairs good;
-    calls = λ f d i e. over_map Any Any _ _ (λ x p. p) (λ g k c d' h. listed_in W sound pairs good W.functions.defs g d' h (c.covers d' h)) d.body (imaged W sound right pairs good f d e (in_listed W sound pairs good W.functions.defs f i)).callees;
-    images = λ f d i e. (imaged W sound right pairs good f d e (in_listed W sound pairs good W.functions.defs f i)).image_there;
+    calls = λ f d i e. over_map Any Any _ _ (λ x p. p) (λ g k c d' h. listed_in W sound pairs good W.functions.defs g d' h (c.covers d' h)) d.body (imaged W sound pairs good f d e (in_listed W sound pairs good W.functions.defs f i)).callees;
+    images = λ f d i e. (imaged W sound pairs good f d e (in_listed W sound pairs good W.functions.defs f i)).image_there;
   }
 
   pub whole_keeps : KeepsArities W.functions (whole_map W pairs)
@@ -516,14 +512,14 @@ module _ (W : World) (sound : Sound W) (right : AreRecorded W) (pairs : List Fun
   whole_covers f none = record { covers = λ d h. ap (λ l. is_some (recorded W f l)) none }
 
 pub maps_are_part : MapsArePart
-maps_are_part W sound right begun distinct pairs fs m e =
+maps_are_part W sound begun distinct pairs fs m e =
     let mk = made W begun pairs fs m e in
     let good = mk.good distinct in
     record {
       whole = whole_map W pairs;
-      listed = whole_list W sound right pairs good;
-      closed = whole_closed W sound right pairs good;
-      arities = whole_keeps W sound right pairs good;
-      inside = λ f d i n h. in_whole W sound right pairs good f d h (made_covered W sound pairs good begun fs m mk.gives f i n);
+      listed = whole_list W sound pairs good;
+      closed = whole_closed W sound pairs good;
+      arities = whole_keeps W sound pairs good;
+      inside = λ f d i n h. in_whole W sound pairs good f d h (made_covered W sound pairs good begun fs m mk.gives f i n);
       same = λ f i n. made_same W sound pairs good begun fs m mk.gives f i n;
     }

@@ -10,7 +10,7 @@ use Rattle.terms.specs.Measures.{mentions, mentions_in, is_nested, is_nested_in,
 use Rattle.terms.proofs.Names.{same_name, name_self}
 use Rattle.terms.proofs.Below.{Any}
 use Rattle.terms.proofs.Totality.{EachTm, by_terms, each_parts, each_join}
-use Rattle.soft_vars.specs.Maps.{NamePairs, or_name, image, rename, rename_all}
+use Rattle.terms.specs.Maps.{NamePairs, or_name, image, rename, rename_all}
 
 -- what doesn't mention f
 module _ (f : Name) (P : Name → Type 0) (Q Q' : Name → ℕ → Type 0) (drop : (g : Name) (k : ℕ) → bytes_eq f g ≡ false → Q g k → Q' g k) where

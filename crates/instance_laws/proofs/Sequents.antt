@@ -16,8 +16,8 @@ use Rattle.terms.proofs.Extend.{over_map}
 use Rattle.terms.proofs.Meaning.{true_from}
 use Rattle.terms.proofs.Lists.{each_parts, each_to, each_of_map, join_parts, join_to}
 use Rattle.terms.proofs.Later.{vars_apart}
-use Rattle.soft_vars.specs.Maps.{NamePairs, image, rename, rename_all}
-use Rattle.soft_vars.specs.Instances.{called, sequent_terms, renamed_sequent}
+use Rattle.terms.specs.Maps.{NamePairs, image, rename, rename_all}
+use Rattle.terms.specs.Instances.{called, sequent_terms, renamed_sequent}
 use Rattle.soft_vars.proofs.Calls.{calls_are_called}
 use Rattle.instance_laws.specs.Closed.{extended, CallsOnly, IsClosed, KeepsArities, IsPart}
 use Rattle.instance_laws.specs.Laws.{InstancesHold}
@@ -164,10 +164,10 @@ module _ (F : Functions) (fs : List Name) (m : NamePairs) (part : IsPart F [] fs
     }
 
 pub instances_hold : InstancesHold
-instances_hold W sound right s fits pairs m e =
+instances_hold W sound s fits pairs m e =
     let F = W.functions in
     let fs = called (sequent_terms s) in
-    let part = maps_are_part W sound right [] tt pairs fs m e in
+    let part = maps_are_part W sound [] tt pairs fs m e in
     let calls = calls_are_called (sequent_terms s) in
     let only = sequent_calls F fs m part s calls in
     let same = sequent_same F fs m part s calls in

@@ -10,7 +10,7 @@ use Rattle.terms.specs.declared.definition.Definition.{Definition}
 use Rattle.terms.proofs.Names.{same_name}
 use Rattle.terms.proofs.Below.{Below, below_self, below_use, below_from, below_cond, below_equal, AllBelow, below_branch}
 use Rattle.terms.proofs.Models.{somes, call_of-somes, is_if}
-use Rattle.soft_vars.specs.Maps.{NamePairs, image, or_name, rename, rename_all}
+use Rattle.terms.specs.Maps.{NamePairs, image, or_name, rename, rename_all}
 use Rattle.instance_laws.specs.Closed.{extended, CallsOnly, IsClosed}
 use Rattle.instance_laws.specs.Laws.{InstancesHaveValues}
 

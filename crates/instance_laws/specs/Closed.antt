@@ -6,7 +6,7 @@ use Rattle.terms.specs.Terms.{Tm, Over}
 use Rattle.terms.specs.Definitions.{find, Interp, Entry}
 use Rattle.terms.specs.Worlds.{Functions, arity, is_in}
 use Rattle.terms.specs.declared.definition.Definition.{Definition}
-use Rattle.soft_vars.specs.Maps.{NamePairs, image, rename}
+use Rattle.terms.specs.Maps.{NamePairs, image, rename}
 
 -- the interpretation in which each name of the map stands for its image, a function of the definitions or what it was before
 abbrev pub extended : List Definition → NamePairs → Interp → Interp

@@ -23,7 +23,7 @@ pub fn instances_owe()
     ensures { InstancesOwe }
 {}
 
-/// A right record stays right in each later world.
+/// A recorded instance is one in each later world.
 pub fn records_stay()
     ensures { RecordsStay }
 {}
@@ -33,7 +33,7 @@ pub fn maps_stay()
     ensures { MapsStay }
 {}
 
-/// A sound world with right records stays such with the instance of a definition and its record.
+/// A sound world stays sound with the instance of a definition, and this instance can be recorded there.
 pub fn worlds_grow_by_instances()
     ensures { WorldsGrowByInstances }
 {}

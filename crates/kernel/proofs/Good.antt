@@ -16,6 +16,7 @@ use Rattle.terms.specs.declared.sequent.Sequent.{Sequent}
 use Rattle.terms.proofs.Below.{Any}
 use Rattle.terms.proofs.Models.{Model, model, vals, vals-length, is_if, reaches_one, reaches_val, eval_reaches}
 use Rattle.terms.proofs.Extend.{body_fits}
+use Rattle.terms.proofs.Found.{each_found}
 use Rattle.terms.proofs.Meaning.{val_same, val_substitute, args_bound, arity_primitive, arity_defined, of_definition, true_from, true_to}
 use Rattle.terms.proofs.Later.{has_basics}
 use Rattle.terms.proofs.Same.{same_term}
@@ -23,8 +24,12 @@ use Rattle.terms.proofs.Standard.{basics_table, basics_arities, basics_do, stand
 use Rattle.terms.proofs.Totality.{each_to, over_substitute, over_by_args}
 use Rattle.worlds.proofs.Growth.{found, found_iso}
 use Rattle.worlds.specs.Lookups.{find_iso}
+use Rattle.terms.specs.Evaluation.{then_with}
+use Rattle.terms.specs.Instances.{instance_map, sequent_terms, renamed_sequent}
+use Rattle.terms.specs.declared.entries.FunPair.{FunPair}
 use Rattle.terms.specs.declared.entries.FactName.{FactName}
 use Rattle.terms.specs.declared.entries.FactName.TheVariants.{Theorem, Measure, Isomorphism}
+use Rattle.instance_laws.proofs.Sequents.{instances_hold}
 use Rattle.kernel.specs.Fitting.{fits, pairs_fit}
 use Rattle.kernel.specs.Sequents.{without, equation, negation, implication, conditional, negated_of, sides_of, of_goal, with_goal, joined}
 use Rattle.kernel.specs.Equations.{replaced, body_at, called, if_true, if_false, reflexive, unfolded}
@@ -37,12 +42,11 @@ use Rattle.evaluator.specs.Counted.{evaluated}
 use Rattle.evaluator.proofs.Values.{counted_law}
 use Rattle.kernel.specs.Evaluating.{is_ground, can_evaluate, value_of, computed}
 use Rattle.kernel.proofs.Evaluations.{gives_value, ground_fits}
-use Rattle.kernel.proofs.Owed.{each_found}
 use Rattle.kernel.specs.Axioms.{axiom_at, axiom_instance}
 use Rattle.kernel.specs.Ring.{ringed}
-use Rattle.kernel.specs.Facts.{item, fact_of}
+use Rattle.kernel.specs.Facts.{item, fact_of, unless_refused, under_pairs, fact_instance}
 use Rattle.kernel.proofs.AxiomTruths.{axiom_truth}
-use Rattle.kernel.proofs.Inversions.{then_some, map_some, if_some, fits_true, each_fits, pair_fits, sides_of_is, negated_of_is}
+use Rattle.kernel.proofs.Inversions.{then_some, map_some, if_some, not_refused, fits_true, each_fits, pair_fits, sides_of_is, negated_of_is}
 use Rattle.kernel.proofs.Joins.{join_to, without_to, map_to}
 use Rattle.kernel.proofs.Parts.{over_put}
 use Rattle.kernel.proofs.Truth.{Is, Always, Follows, Logical, is_equal, model_logical}
@@ -343,16 +347,32 @@ module _ (W : World) (sound : Sound W) where
     };
   }
 
-  pub good_fact_rule : (f : FactName) (s : Sequent) → fact_of W f ≡ Some s → Good s
-  good_fact_rule (Theorem n) s e = let t = found W sound n s e in good_fact s t.fits t.holds
-  good_fact_rule (Measure f k) s e =
+  -- a fact of the world is well formed and holds
+  fact_holds : (f : FactName) (s : Sequent) → fact_of W f ≡ Some s → FitsSequent W.functions s × Holds W.functions s
+  fact_holds (Theorem n) s e = let t = found W sound n s e in (t.fits, t.holds)
+  fact_holds (Measure f k) s e =
       let d = then_some (find W.functions.defs f) _ s e in
-      let h = at (λ s. FitsSequent W.functions s × Holds W.functions s) (obligations d.0) k s (each_found (λ d. AllHold W.functions (obligations d)) W.functions.defs sound.obligations f d.0 d.1) d.2 in
-      good_fact s h.0 h.1
-  good_fact_rule (Isomorphism n k) s e =
+      at (λ s. FitsSequent W.functions s × Holds W.functions s) (obligations d.0) k s (each_found (λ d. AllHold W.functions (obligations d)) W.functions.defs sound.obligations f d.0 d.1) d.2
+  fact_holds (Isomorphism n k) s e =
       let i = then_some (find_iso W.isos n) _ s e in
-      let h = at_item (λ s. FitsSequent W.functions s × Holds W.functions s) (iso_conditions i.0) k s (found_iso W sound n i.0 i.1) i.2 in
-      good_fact s h.0 h.1
+      at_item (λ s. FitsSequent W.functions s × Holds W.functions s) (iso_conditions i.0) k s (found_iso W sound n i.0 i.1) i.2
+
+  pub good_fact_rule : (f : FactName) (s : Sequent) → fact_of W f ≡ Some s → Good s
+  good_fact_rule f s e = let h = fact_holds f s e in good_fact s h.0 h.1
+
+  -- a fact under pairs
+  good_under_pairs : (f : FactName) (pairs : List FunPair) (t : Sequent) → then_with (fact_of W f) (under_pairs W pairs) ≡ Some t → Good t
+  good_under_pairs f pairs t e =
+      let s = then_some (fact_of W f) (under_pairs W pairs) t e in
+      let m = map_some (λ m. renamed_sequent m s.0) (unless_refused (instance_map W (sequent_terms s.0) pairs)) t s.2 in
+      let h = fact_holds f s.0 s.1 in
+      let i = instances_hold W sound s.0 h.0 pairs m.0 (not_refused (instance_map W (sequent_terms s.0) pairs) m.0 m.1) in
+      subst Good m.2 (good_fact (renamed_sequent m.0 s.0) i.fits (i.holds h.1))
+
+  pub good_instance_rule : (pairs : List FunPair) (f : FactName) (s : Sequent) → fact_instance W pairs f ≡ Some s → Good s
+  good_instance_rule pairs (Theorem n) s e = good_under_pairs (Theorem n) pairs s e
+  good_instance_rule pairs (Measure f k) s e = good_under_pairs (Measure f k) pairs s e
+  good_instance_rule pairs (Isomorphism n k) s e = absurd (cc)
 
   -- a term without variables has the value that evaluation gives, whatever values variables have
   pub good_eval : (a : Tm) (s : Sequent) → computed W.functions a ≡ Some s → Good s

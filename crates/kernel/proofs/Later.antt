@@ -12,6 +12,8 @@ use Rattle.terms.specs.Terms.{Tm, Var, Quote, Call, Tms, Done, More, count, same
 use Rattle.terms.specs.Sound.{Sound}
 use Rattle.terms.specs.Worlds.{World, Functions, IsIn, Distinct, arity, arity_by}
 use Rattle.terms.specs.declared.definition.Definition.{Definition}
+use Rattle.terms.specs.Instances.{instance_map, sequent_terms, renamed_sequent}
+use Rattle.terms.specs.declared.entries.FunPair.{FunPair}
 use Rattle.terms.specs.declared.entries.FactName.{FactName}
 use Rattle.terms.specs.declared.entries.FactName.TheVariants as fact
 use Rattle.terms.specs.declared.entries.Iso.{Iso}
@@ -19,6 +21,7 @@ use Rattle.terms.specs.declared.sequent.Sequent.{Sequent}
 use Rattle.terms.proofs.Later.{vars_apart}
 use Rattle.terms.proofs.Names.{same_name}
 use Rattle.worlds.specs.Lookups.{find_iso}
+use Rattle.instance_laws.proofs.LaterMaps.{maps_stay}
 use Rattle.proof_objects.specs.declared.step.InductionCase.{InductionCase}
 use Rattle.proof_objects.specs.declared.step.Step.{Step}
 use Rattle.proof_objects.specs.declared.step.Step.TheVariants.{Hyp, Refl, Replace, Unfold, Eval, Substitute, IfTrue, IfFalse, Cases, Cut, Weaken, Contradict, Axiom, Ring, ImpliesIn, ImpliesOut, Universal, Discharge, Theorem, Instance, Induct}
@@ -31,7 +34,9 @@ use Rattle.evaluator.specs.Counted.{evaluated}
 use Rattle.evaluator.proofs.Stay.{counted_values_stay}
 use Rattle.kernel.specs.Evaluating.{is_ground, can_evaluate, value_of, computed}
 use Rattle.kernel.proofs.Evaluations.{gives_value}
-use Rattle.kernel.specs.Facts.{fact_of}
+use Rattle.kernel.proofs.Inversions.{then_some, map_some, not_refused}
+use Rattle.kernel.proofs.Good.{good_fact_rule}
+use Rattle.kernel.specs.Facts.{fact_of, unless_refused, under_pairs, fact_instance}
 use Rattle.kernel.specs.Induction.{says_natural, all_assumed, smaller, falls_in, all_fall, induced}
 use Rattle.kernel.specs.Conclude.{from_none, from_one, from_two, from_more, conclude}
 use Rattle.kernel.specs.Concludes.{concludes, all_concluded}
@@ -113,7 +118,7 @@ more_later k k' [] t f e = absurd (cc)
 more_later k k' (p ∷ []) t f e = absurd (cc)
 more_later k k' (p ∷ q ∷ rest) t f e = f p q rest e
 
-module _ (W V : World) (sound : Sound V) (later : IsLater W V) where
+module _ (W V : World) (before : Sound W) (sound : Sound V) (later : IsLater W V) where
   abbrev F : Functions
   F = W.functions
 
@@ -243,6 +248,22 @@ module _ (W V : World) (sound : Sound V) (later : IsLater W V) where
   fact_later (fact.Measure f k) t e = then_later (find F.defs f) (find G.defs f) _ _ t (find_later f) (λ d e'. e') e
   fact_later (fact.Isomorphism n k) t e = then_later (find_iso W.isos n) (find_iso V.isos n) _ _ t (iso_later n) (λ i e'. e') e
 
+  -- the map that pairs give for a fact stays
+  under_pairs_later : (f : FactName) (pairs : List FunPair) (t : Sequent) → then_with (fact_of W f) (under_pairs W pairs) ≡ Some t → then_with (fact_of V f) (under_pairs V pairs) ≡ Some t
+  under_pairs_later f pairs t e =
+      let s = then_some (fact_of W f) (under_pairs W pairs) t e in
+      let m = map_some (λ m. renamed_sequent m s.0) (unless_refused (instance_map W (sequent_terms s.0) pairs)) t s.2 in
+      let good = good_fact_rule W before f s.0 s.1 in
+      let stays = maps_stay W V before sound later s.0 good.fit pairs m.0 (not_refused (instance_map W (sequent_terms s.0) pairs) m.0 m.1) in
+      ap (λ o. then_with o (under_pairs V pairs)) (fact_later f s.0 s.1)
+      ∙ ap (λ o. option_map (λ m. renamed_sequent m s.0) (unless_refused o)) stays
+      ∙ ap Some m.2
+
+  instance_later : (pairs : List FunPair) (f : FactName) (t : Sequent) → fact_instance W pairs f ≡ Some t → fact_instance V pairs f ≡ Some t
+  instance_later pairs (fact.Theorem n) t e = under_pairs_later (fact.Theorem n) pairs t e
+  instance_later pairs (fact.Measure f k) t e = under_pairs_later (fact.Measure f k) pairs t e
+  instance_later pairs (fact.Isomorphism n k) t e = absurd (cc)
+
   value_later : (a : Tm) (v : Val) → value_of (evaluated F.defs a) ≡ Some v → value_of (evaluated G.defs a) ≡ Some v
   value_later a v e = let g = gives_value (evaluated F.defs a) v e in ap value_of (counted_values_stay F.defs G.defs find_later a v g.0 g.1)
 
@@ -291,7 +312,7 @@ module _ (W V : World) (sound : Sound V) (later : IsLater W V) where
   rule_later (Universal u s) ps t = none_later _ _ ps t (universal_later u s t)
   rule_later Discharge ps t = λ e. e
   rule_later (Theorem f) ps t = none_later _ _ ps t (fact_later f t)
-  rule_later (Instance f pairs) ps t = λ e. absurd (cc)
+  rule_later (Instance f pairs) ps t = none_later _ _ ps t (instance_later pairs f t)
   rule_later (Induct m cases) ps t = more_later _ _ ps t (induct_later m cases t)
 
   both_with : (o o' : Option Sequent) (l l' : Option (List Sequent)) (ts : List Sequent) → ((t : Sequent) → o ≡ Some t → o' ≡ Some t) → ((us : List Sequent) → l ≡ Some us → l' ≡ Some us) → then_with o (λ s. then_with l (λ ss. Some (s ∷ ss))) ≡ Some ts → then_with o' (λ s. then_with l' (λ ss. Some (s ∷ ss))) ≡ Some ts
@@ -306,4 +327,4 @@ module _ (W V : World) (sound : Sound V) (later : IsLater W V) where
     all_later (Also p ps) ts e = both_with (concludes W p) (concludes V p) (all_concluded W ps) (all_concluded V ps) ts (proof_later p) (all_later ps) e
 
 pub proofs_stay : ProofsStay
-proofs_stay W V sound later p t e = proof_later W V sound later p t e
+proofs_stay W V before sound later p t e = proof_later W V before sound later p t e

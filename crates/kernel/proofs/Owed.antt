@@ -1,54 +1,30 @@
 -- The obligations of definitions that are found in a sound world.
-use Rattle.std.proofs.Common.{◌≡◌, ◌<◌, ℕ, zero, suc, Bool, true, false, cond, List, [], ◌∷◌, length, bytes_eq, nat_lt, slice_get, Option, Some, None, refl, sym, ap, ◌∙◌, subst, arith}
+use Rattle.std.proofs.Common.{◌≡◌, ◌<◌, ℕ, zero, suc, true, false, List, [], ◌∷◌, length, nat_lt, slice_get, Option, Some, None, refl, sym, ap, ◌∙◌, arith}
 use Rattle.std.specs.Prelude.{IsSome}
 use Rattle.std.proofs.lemmas.Bool.{ltb-true, ltb-false}
 use Rattle.std.proofs.lemmas.Option.{slice_get_past}
 use Rattle.terms.specs.Evaluation.{then_with}
 use Rattle.lisp_data.specs.Values.{Name}
 use Rattle.terms.specs.Definitions.{find}
-use Rattle.terms.specs.Formed.{AllFormed}
 use Rattle.terms.specs.Measures.{is_nested, obligations}
 use Rattle.terms.specs.Sound.{Sound}
-use Rattle.terms.specs.Worlds.{World, Each, IsIn, Distinct, arity}
+use Rattle.terms.specs.Worlds.{World, IsIn, Distinct, arity}
 use Rattle.terms.specs.declared.definition.Definition.{Definition}
 use Rattle.terms.specs.declared.sequent.Sequent.{Sequent}
 use Rattle.terms.proofs.Extend.{body_fits, over_map}
 use Rattle.terms.proofs.Meaning.{arity_defined}
-use Rattle.terms.proofs.Names.{same_name}
+use Rattle.terms.proofs.Found.{IsFoundFormed, found_formed, found_name}
 use Rattle.measures.specs.Calls.{CallsTake}
 
 some_is : {A : Type 0} {x y : A} → Some x ≡ Some y → x ≡ y
 some_is e = cc
 
--- what each definition has, one that is found has
-pub each_found : (P : Definition → Type 0) (ds : List Definition) → Each P ds → (f : Name) (d : Definition) → find ds f ≡ Some d → P d
-each_found P [] h f d e = absurd (cc)
-each_found P (c ∷ ds) h f d e = by_test (bytes_eq c.name f) e (each_found P ds h.1 f d)
-  where
-    by_test : (b : Bool) → cond b (Some c) (find ds f) ≡ Some d → (find ds f ≡ Some d → P d) → P d
-    by_test true e' ih = subst P (some_is e') h.0
-    by_test false e' ih = ih e'
-
--- a definition that is found has the name, and no nested calls
-found_name : (ds : List Definition) (f : Name) (d : Definition) → find ds f ≡ Some d → d.name ≡ f
-found_name [] f d e = absurd (cc)
-found_name (c ∷ ds) f d e = by_test (bytes_eq c.name f) refl e (found_name ds f d)
-  where
-    by_test : (b : Bool) → bytes_eq c.name f ≡ b → cond b (Some c) (find ds f) ≡ Some d → (find ds f ≡ Some d → d.name ≡ f) → d.name ≡ f
-    by_test true t e' ih = subst (λ (x : Definition). x.name ≡ f) (some_is e') (same_name c.name f t)
-    by_test false t e' ih = ih e'
-
-formed_flat : (vars : List (Name × ℕ)) (ds : List Definition) → AllFormed vars ds → Each (λ d. is_nested d.name d.body ≡ false) ds
-formed_flat vars [] h = tt
-formed_flat vars (d ∷ ds) h = (h.0.flat, formed_flat vars ds h.1)
-
-formed_distinct : (vars : List (Name × ℕ)) (ds : List Definition) → AllFormed vars ds → Each (λ d. Distinct d.formals) ds
-formed_distinct vars [] h = tt
-formed_distinct vars (d ∷ ds) h = (h.0.formals, formed_distinct vars ds h.1)
-
 module _ (W : World) (sound : Sound W) (f : Name) (d : Definition) (found : find W.functions.defs f ≡ Some d) where
+  formed : IsFoundFormed W.functions d
+  formed = found_formed W.functions.vars W.functions.defs sound.formed f d found
+
   pub found_flat : is_nested d.name d.body ≡ false
-  found_flat = each_found (λ d. is_nested d.name d.body ≡ false) W.functions.defs (formed_flat W.functions.vars W.functions.defs sound.formed) f d found
+  found_flat = formed.flat
 
   -- each of its calls of itself has as many arguments as it has formals
   pub calls_take : CallsTake d.name (length d.formals) d.body
@@ -58,7 +34,7 @@ module _ (W : World) (sound : Sound W) (f : Name) (d : Definition) (found : find
       d.body (body_fits W.functions sound.formed f d found)
 
   pub found_distinct : Distinct d.formals
-  found_distinct = each_found (λ d. Distinct d.formals) W.functions.defs (formed_distinct W.functions.vars W.functions.defs sound.formed) f d found
+  found_distinct = formed.formals
 
 -- the obligations of numbers below how many there are
 pub has_item : (ss : List Sequent) (k : ℕ) → true ≡ nat_lt k (length ss) → IsSome (slice_get ss k)

@@ -66,7 +66,7 @@ module _ (W : World) (sound : Sound W) where
   rule_good (Universal u s) ps t g = none_gives Good _ ps t (good.good_universal W sound u s t)
   rule_good Discharge ps t g = two_gives Good _ ps t g (λ p q. good.good_discharge W sound p q t)
   rule_good (Theorem fact) ps t g = none_gives Good _ ps t (good.good_fact_rule W sound fact t)
-  rule_good (Instance fact pairs) ps t g = λ e. absurd (cc)
+  rule_good (Instance fact pairs) ps t g = none_gives Good _ ps t (good.good_instance_rule W sound pairs fact t)
   rule_good (Induct m cases) ps t g = more_gives Good _ ps t g (λ p q rest. good_induct W sound m cases p q rest t)
 
   mutual

@@ -10,7 +10,7 @@ use Rattle.kernel.specs.Equations.{reflexive, replaced, unfolded, if_true, if_fa
 use Rattle.kernel.specs.Logic.{hypothesis, substituted, by_cases, cut, weakened, contradicted, implied, detached, instantiated, discharged}
 use Rattle.kernel.specs.Induction.{induced}
 use Rattle.kernel.specs.Axioms.{axiom_instance}
-use Rattle.kernel.specs.Facts.{fact_of}
+use Rattle.kernel.specs.Facts.{fact_of, fact_instance}
 use Rattle.kernel.specs.Ring.{ringed, ring_code}
 use Rattle.kernel.specs.Evaluating.{computed, evaluation_code}
 
@@ -35,10 +35,6 @@ from_more k [] = None
 from_more k (p ∷ []) = None
 from_more k (p ∷ q ∷ ps) = k p q ps
 
--- a rule that no proof may use yet
-abbrev pub not_built : List Sequent → Option Sequent
-not_built ps = None
-
 -- the sequent that a step concludes from what its subproofs do, or nothing
 abbrev pub conclude : World → Step → List Sequent → Option Sequent
 conclude W (Hyp p) = from_none (hypothesis W.functions p)
@@ -60,7 +56,7 @@ conclude W ImpliesOut = from_two detached
 conclude W (Universal u s) = from_none (instantiated W.functions u s)
 conclude W Discharge = from_two discharged
 conclude W (Theorem fact) = from_none (fact_of W fact)
-conclude W (Instance fact pairs) = not_built
+conclude W (Instance fact pairs) = from_none (fact_instance W pairs fact)
 conclude W (Induct m cases) = from_more (induced W.functions m cases)
 
 -- the code of a step without subproofs that concludes nothing: that of a limit, where its rule computes and meets one

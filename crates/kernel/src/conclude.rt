@@ -11,7 +11,7 @@ use crate::axioms::axiom_instance;
 use crate::equations::{if_false, if_true, reflexive, replaced, unfolded};
 use crate::errors::RuleError;
 use crate::evaluating::computed;
-use crate::facts::fact_of;
+use crate::facts::{fact_instance, fact_of};
 use crate::induction::{induced, paired};
 use crate::logic::{
     by_cases, contradicted, cut, detached, discharged, hypothesis, implied, instantiated,
@@ -36,6 +36,7 @@ fn from_none(alloc: Global, world: &World, step: &Step) -> Result<Sequent, RuleE
         Step::Ring(a, b) => ringed(alloc, world, a, b),
         Step::Universal(u, s) => instantiated(alloc, world, u, s),
         Step::Theorem(fact) => fact_of(alloc, world, fact),
+        Step::Instance(fact, pairs) => fact_instance(alloc, world, fact, pairs),
         _ => Err(RuleError::Refused),
     }
 }

@@ -1,4 +1,4 @@
-//! What the rule on facts of the world concludes, as docs/KERNEL.md says.
+//! What the rules on facts of the world conclude, as docs/KERNEL.md says.
 #![tactic(auto, unfolding(lisp_data::specs::SymbolText::is_symbol_text, lisp_data::specs::Atoms::leaf, lisp_data::specs::Atoms::in_atom, lisp_data::specs::Atoms::is_delimiter, lisp_data::specs::Atoms::is_sign))]
 
 ghost use Rattle.std.specs.Prelude.{◌≡◌, IfOk, IsSome, Some, false, codes, length, slice_get};
@@ -11,15 +11,17 @@ ghost use Rattle.terms.specs.Evaluation.{then_with};
 ghost use Rattle.terms.specs.Worlds.{Distinct};
 ghost use Rattle.measures.specs.Calls.{CallsTake};
 ghost use Rattle.worlds.specs.Lookups.{find_iso};
-ghost use Rattle.kernel.specs.Facts.{fact_of, item};
-ghost use Rattle.kernel.specs.Answers.{SaysSequent};
+ghost use Rattle.kernel.specs.Facts.{fact_instance, fact_of, item, under_pairs};
+ghost use Rattle.kernel.specs.Answers.{SaysInMemory, SaysSequent};
 
 use crate::connectives::equation;
 use crate::errors::RuleError;
+use crate::sequents::{renamed, terms_of};
 use lisp_data::{Memory, Seq, Symbol};
 use measures::{MeasureError, has_obligation, obligations};
+use soft_vars::{SoftError, instance_map};
 use std::alloc::Global;
-use terms::{Definition, FactName, Iso, Sequent, Term};
+use terms::{Definition, FactName, FunPairs, Iso, Sequent, Term};
 use worlds::World;
 
 fn theorem(alloc: Global, world: &World, name: &Symbol) -> Result<Sequent, RuleError>
@@ -152,6 +154,42 @@ pub(crate) fn fact_of(alloc: Global, world: &World, fact: &FactName) -> Result<S
         FactName::Theorem(name) => theorem(alloc, world, name),
         FactName::Measure(name, number) => obligation(alloc, world, name, *number),
         FactName::Isomorphism(name, number) => iso_condition(alloc, world, name, *number),
+    }
+}
+
+/// The sequent with functions in the place of function variables.
+fn under_pairs(
+    alloc: Global,
+    world: &World,
+    sequent: &Sequent,
+    pairs: &FunPairs,
+) -> Result<Sequent, RuleError>
+    ensures { SaysInMemory (under_pairs world.now pairs.now sequent.now) result }
+{
+    let terms = terms_of(alloc, sequent)?;
+    match instance_map(alloc, world, &terms, pairs) {
+        Ok(map) => Ok(renamed(alloc, sequent, &map)?),
+        Err(SoftError::Refused { .. }) => Err(RuleError::Refused),
+        Err(SoftError::Memory) => Err(RuleError::Memory),
+    }
+}
+
+/// Instance: a theorem of the world or an obligation of one of its definitions, with functions in the place of function
+/// variables.
+pub(crate) fn fact_instance(
+    alloc: Global,
+    world: &World,
+    fact: &FactName,
+    pairs: &FunPairs,
+) -> Result<Sequent, RuleError>
+    ensures { SaysInMemory (fact_instance world.now pairs.now fact.now) result }
+{
+    match fact {
+        FactName::Theorem(_) | FactName::Measure(_, _) => {
+            let sequent = fact_of(alloc, world, fact)?;
+            under_pairs(alloc, world, &sequent, pairs)
+        }
+        FactName::Isomorphism(_, _) => Err(RuleError::Refused),
     }
 }
 

@@ -17,7 +17,7 @@ use crate::conclude::conclude;
 use crate::equations::{if_false, if_true, reflexive, replaced, unfolded};
 use crate::errors::RuleError;
 use crate::evaluating::computed;
-use crate::facts::{fact_of, shared};
+use crate::facts::{fact_instance, fact_of, shared};
 use crate::induction::{InductCase, InductCases, cases_conclude, induced, step_cases};
 use crate::laws::{proofs_stay, rules_are_sound};
 use crate::logic::{
@@ -30,7 +30,7 @@ use proof_objects::{Proof, Step};
 use std::alloc::Global;
 use std::marker::Model;
 use std::rc::Rc;
-use terms::{FactName, Path, Sequent, Subst, Term, Terms};
+use terms::{FactName, FunPairs, Path, Sequent, Subst, Term, Terms};
 use worlds::World;
 
 /// A sequent with a world and a proof that concludes it there, so that it holds in this world.
@@ -350,6 +350,19 @@ impl Proved {
         Ok(proved)
     }
 
+    /// Instance: a theorem of the world, or an obligation of one of its definitions, with functions in the place of
+    /// function variables.
+    pub fn instance(alloc: Global, world: &World, fact: &FactName, pairs: &FunPairs) -> Ruled
+        ensures ok { IfOk result (λ it. IsProvedBy it world.now (alone (Step.Instance fact.now pairs.now))) }
+        ensures refused { IsErrOf result RuleError.Refused → concludes world.now (alone (Step.Instance fact.now pairs.now)) ≡ None }
+        ensures limits { IsWithinLimits result }
+    {
+        let sequent = fact_instance(alloc, world, fact, pairs)?;
+        let step = Step::Instance(shared(fact)?, pairs.copy(alloc)?);
+        let proved = Proved::of(alloc, world, step, Seq::new(alloc), sequent)?;
+        Ok(proved)
+    }
+
     /// Induction: `natural` says `(natp m)` of the measure m, `base` has its goal from induction hypotheses alone, and
     /// in each case m falls.
     pub fn induct(
@@ -399,6 +412,7 @@ impl Proved {
         ensures proof { IfOk result (λ it. it.proof ≡ self.now.proof) }
         ensures sequent { IfOk result (λ it. it.sequent ≡ self.now.sequent) }
     {
+        self.world.soundness();
         world.soundness();
         proofs_stay();
         let world = world.share()?;

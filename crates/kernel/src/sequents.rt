@@ -1,14 +1,17 @@
 //! Sequents, and their lists without repeats.
 
-ghost use Rattle.std.specs.Prelude.{◌≡◌, IfOk, map};
+ghost use Rattle.std.specs.Prelude.{◌≡◌, ◌++◌, IfOk, map};
 ghost use Rattle.std.specs.List.{list_any};
 ghost use Rattle.terms.specs.Substitution.{by_pairs};
 ghost use Rattle.terms.specs.Terms.{same_tm, substitute as substituted};
+ghost use Rattle.terms.specs.Instances.{sequent_terms, renamed_sequent};
+ghost use Rattle.terms.specs.Maps.{rename};
 ghost use Rattle.kernel.specs.Sequents.{join, without, of_goal, with_goal, joined};
 ghost use Rattle.kernel.specs.Logic.{instance_of, of_cases};
 
 use crate::connectives::negation;
 use lisp_data::{Memory, Seq};
+use soft_vars::{NameMap, instantiate_term};
 use std::alloc::Global;
 use terms::{Sequent, Subst, Term, Terms, substitute};
 use worlds::World;
@@ -89,6 +92,53 @@ pub(crate) fn instance_of(alloc: Global, p: &Sequent, s: &Subst) -> Result<Seque
     let instances = all_substituted(alloc, &p.hyps, s)?;
     let hyps = join(alloc, &Seq::new(alloc), &instances)?;
     let goal = substitute(alloc, &p.goal, s)?;
+    Ok(Sequent {
+        universals,
+        hyps,
+        goal,
+    })
+}
+
+/// The first list, and then the second.
+#[tactic(auto, using(crate::proofs::Args::lists))]
+fn appended(alloc: Global, first: &Terms, second: &Terms) -> Result<Terms, Memory>
+    ensures { IfOk result (λ ts. ts ≡ first.now ++ second.now) }
+{
+    let mut all = first.copy(alloc)?;
+    for term in second.as_slice() {
+        all.push(term.share()?)?;
+    }
+    Ok(all)
+}
+
+/// The universals, the hypotheses and the goal.
+pub(crate) fn terms_of(alloc: Global, p: &Sequent) -> Result<Terms, Memory>
+    ensures { IfOk result (λ ts. ts ≡ sequent_terms p.now) }
+{
+    let mut rest = p.hyps.copy(alloc)?;
+    rest.push(p.goal.share()?)?;
+    appended(alloc, &p.universals, &rest)
+}
+
+#[tactic(auto, using(crate::proofs::Args::lists))]
+fn all_renamed(alloc: Global, terms: &Terms, names: &NameMap) -> Result<Terms, Memory>
+    ensures { IfOk result (λ ts. ts ≡ map (rename names.now) terms.now) }
+{
+    let mut instances = Seq::new(alloc);
+    for term in terms.as_slice() {
+        instances.push(instantiate_term(alloc, term, names)?)?;
+    }
+    Ok(instances)
+}
+
+/// The sequent under a map of names.
+pub(crate) fn renamed(alloc: Global, p: &Sequent, names: &NameMap) -> Result<Sequent, Memory>
+    ensures { IfOk result (λ s. s ≡ renamed_sequent names.now p.now) }
+{
+    let none = Seq::new(alloc);
+    let universals = join(alloc, &none, &all_renamed(alloc, &p.universals, names)?)?;
+    let hyps = join(alloc, &none, &all_renamed(alloc, &p.hyps, names)?)?;
+    let goal = instantiate_term(alloc, &p.goal, names)?;
     Ok(Sequent {
         universals,
         hyps,

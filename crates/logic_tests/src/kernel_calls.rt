@@ -10,7 +10,7 @@ use lisp_data::{Code, Seq, Symbol, Value};
 use proof_objects::{Proof, Rule, Step};
 use std::alloc::Global;
 use std::test::Fail;
-use terms::{Definition, FactName, Path, Subst, Term, Terms, at_path};
+use terms::{Definition, FactName, FunPair, FunPairs, Path, Subst, Term, Terms, at_path};
 use worlds::World;
 
 fn x(alloc: Global) -> Result<Term, Fail>
@@ -246,6 +246,31 @@ fn cites_obligations(rt: HostRuntime) -> Result<(), Fail> {
     assert_eq!(rt; proved.sequent().hyps.len(), 1);
     let beyond = FactName::Measure(Symbol::new(alloc, "LEN")?, 2);
     let answer = Proved::theorem(alloc, &world, &beyond).map(|_| ());
+    assert_eq!(rt; answer, Err(RuleError::Refused));
+    Ok(())
+}
+
+#[test]
+fn cites_instances(rt: HostRuntime) -> Result<(), Fail> {
+    let alloc = rt.alloc();
+    let begin = World::initial(alloc)?;
+    let world = begin.with_variable(alloc, Symbol::new(alloc, "?F")?, 1)?;
+    let natural = FactName::Measure(Symbol::new(alloc, "LEN")?, 0);
+    let mut pairs = FunPairs::new(alloc);
+    pairs.push(FunPair {
+        variable: Symbol::new(alloc, "?F")?,
+        function: Symbol::new(alloc, "CAR")?,
+    })?;
+    let proved = Proved::instance(alloc, &world, &natural, &pairs)?;
+    let cited = Proved::theorem(alloc, &world, &natural)?;
+    assert!(rt; proved.sequent().goal.same(&cited.sequent().goal));
+    let checked = check(alloc, &world, proved.proof())?;
+    assert!(rt; checked.sequent().goal.same(&cited.sequent().goal));
+    pairs.push(FunPair {
+        variable: Symbol::new(alloc, "CAR")?,
+        function: Symbol::new(alloc, "CDR")?,
+    })?;
+    let answer = Proved::instance(alloc, &world, &natural, &pairs).map(|_| ());
     assert_eq!(rt; answer, Err(RuleError::Refused));
     Ok(())
 }

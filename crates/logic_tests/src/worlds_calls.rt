@@ -237,23 +237,33 @@ fn keeps_isomorphisms(rt: HostRuntime) -> Result<(), Fail> {
     Ok(())
 }
 
+/// The world in which `not` is recorded as its own instance for no pairs.
+fn with_not(alloc: Global, world: &World) -> Result<World, Fail> {
+    world.soundness();
+    let of = Symbol::new(alloc, "NOT")?;
+    let instance = of.share()?;
+    let world = world.with_instance(alloc, of, FunPairs::new(alloc), instance)?;
+    Ok(world)
+}
+
 #[test]
 fn keeps_instances_and_links(rt: HostRuntime) -> Result<(), Fail> {
     let alloc = rt.alloc();
     let function = Symbol::new(alloc, "F")?;
-    let instance = Symbol::new(alloc, "G")?;
+    let not = Symbol::new(alloc, "NOT")?;
     let link = Link::Solution {
         spec: function.share()?,
         variable: function.share()?,
         function: function.share()?,
     };
     let begin = World::initial(alloc)?;
-    let world = begin.with_instance(alloc, function.share()?, Seq::new(alloc), instance.share()?)?;
+    let world = with_not(alloc, &begin)?;
     let world = world.with_link(alloc, function.share()?, link)?;
+    assert!(rt; begin.find_instance(&not, &Seq::new(alloc)).is_none());
     assert!(rt;
         world
-            .find_instance(&function, &Seq::new(alloc))
-            .is_some_and(|found| found.same(&instance))
+            .find_instance(&not, &Seq::new(alloc))
+            .is_some_and(|found| found.same(&not))
     );
     assert!(rt; world.find_link(&function).is_some());
     assert!(rt; begin.find_link(&function).is_none());

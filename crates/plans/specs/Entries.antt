@@ -2,7 +2,8 @@
 use Rattle.std.specs.Prelude.{◌≡◌, true, List, [], ◌∷◌}
 use Rattle.terms.specs.Worlds.{World, FitsSequent, Holds}
 use Rattle.terms.specs.Formed.{IsWellFormed, FitsOver, ObligationsHold}
-use Rattle.terms.specs.Sound.{AllHold, iso_conditions, add_definition, add_variable, add_theorem, add_specification, add_iso, add_instance, add_link}
+use Rattle.terms.specs.Instances.{IsRecorded}
+use Rattle.terms.specs.Sound.{AllHold, iso_conditions, add_definition, add_variable, add_theorem, add_specification, add_iso, instance_of, add_instance, add_link}
 use Rattle.terms.specs.declared.definition.Definition.{Definition}
 use Rattle.terms.specs.declared.sequent.Sequent.{Sequent}
 use Rattle.worlds.specs.Names.{is_free}
@@ -48,14 +49,14 @@ pub record IsNewTheorem (W : World) (s : Sequent) : Type 0 where
   pub fits : FitsSequent W.functions s
   pub holds : Holds W.functions s
 
--- the world can take the entry: its name is free, and it is what the world keeps of its kind
+-- the world can take the entry: its name is free, if it gives one away, and it is what the world keeps of its kind
 abbrev pub Admits : World → Entry → Type 0
 Admits W (Function d) = IsNewDefinition W d
 Admits W (Variable x k) = is_free W x ≡ true
 Admits W (Theorem n s) = (is_free W n ≡ true) × IsNewTheorem W s
 Admits W (Spec s) = (is_free W s.name ≡ true) × FitsOver W.functions s.variables s.matrix
 Admits W (Isomorphism i) = (is_free W i.name ≡ true) × AllHold W.functions (iso_conditions i)
-Admits W (Instance of pairs instance) = Unit {0}
+Admits W (Instance of pairs instance) = IsRecorded W (instance_of of pairs instance)
 Admits W (Chained n l) = Unit {0}
 
 -- it can take them one after the other

@@ -1,14 +1,15 @@
 //! The world with what a plan makes.
 
 ghost use Rattle.std.specs.Prelude.{◌≡◌, true, IfOk, IsErrOf, Ok};
-ghost use Rattle.terms.specs.Sound.{AllHold, add_iso, add_theorem, iso_conditions};
+ghost use Rattle.terms.specs.Instances.{IsRecorded};
+ghost use Rattle.terms.specs.Sound.{AllHold, add_iso, add_theorem, instance_of, add_instance, iso_conditions};
 ghost use Rattle.worlds.specs.Names.{is_free};
 ghost use Rattle.plans.specs.Entries.{Admits, AdmitsAll, IsNewTheorem, add_entry, add_entries};
 
 use crate::plan::Entry;
 use lisp_data::{Memory, Symbol};
 use std::alloc::Global;
-use terms::{Iso, Sequent};
+use terms::{FunPairs, Iso, Sequent};
 use worlds::{World, WorldError};
 
 /// A larger world, whose new name is free.
@@ -49,6 +50,22 @@ fn with_new_iso(alloc: Global, world: &World, iso: &Iso) -> Result<World, Memory
     grown(world.with_iso(alloc, iso))
 }
 
+fn with_new_instance(
+    alloc: Global,
+    world: &World,
+    of: &Symbol,
+    pairs: &FunPairs,
+    instance: &Symbol,
+) -> Result<World, Memory>
+    requires { IsRecorded world.now (instance_of of.now pairs.now instance.now) }
+    ensures { IfOk result (λ next. next ≡ add_instance of.now pairs.now instance.now world.now) }
+{
+    let of = of.share()?;
+    let pairs = pairs.copy(alloc)?;
+    let instance = instance.share()?;
+    world.with_instance(alloc, of, pairs, instance)
+}
+
 /// The world with one more entry.
 fn with_entry(alloc: Global, world: &World, entry: &Entry) -> Result<World, Memory>
     requires { Admits world.now entry.now }
@@ -63,7 +80,7 @@ fn with_entry(alloc: Global, world: &World, entry: &Entry) -> Result<World, Memo
         Entry::Spec(specification) => grown(world.with_spec(alloc, specification.copy(alloc)?)),
         Entry::Isomorphism(iso) => with_new_iso(alloc, world, iso),
         Entry::Instance(of, pairs, instance) => {
-            world.with_instance(alloc, of.share()?, pairs.copy(alloc)?, instance.share()?)
+            with_new_instance(alloc, world, of, pairs, instance)
         }
         Entry::Chained(theorem, link) => world.with_link(
             alloc,

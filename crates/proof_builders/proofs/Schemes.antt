@@ -28,7 +28,7 @@ use Rattle.proof_builders.specs.Schemes.{hypothesis, scheme, by_measure}
 -- a term without calls of f has none
 module _ (f : Name) where
   mutual
-    no_calls : (t : Tm) (tests : List Tm) → mentions f t ≡ false → recursive_calls f tests t ≡ []
+    pub no_calls : (t : Tm) (tests : List Tm) → mentions f t ≡ false → recursive_calls f tests t ≡ []
     no_calls (Var x) tests e = refl
     no_calls (Quote v) tests e = refl
     no_calls (Call g ts) tests e =
@@ -42,7 +42,7 @@ module _ (f : Name) where
         ap (λ cs. cs ++ recursive_calls_in f (next p) tests ts) (no_calls t (tests_at p tests) h.0) ∙ no_calls_in ts (next p) tests h.1
 
 -- formals for themselves change nothing
-own : (xs : List Name) (x : Name) → by_args xs (tms (map Var xs)) x ≡ Var x
+pub own : (xs : List Name) (x : Name) → by_args xs (tms (map Var xs)) x ≡ Var x
 own [] x = refl
 own (y ∷ ys) x = by_test (bytes_eq y x) refl (own ys x)
   where
@@ -52,7 +52,7 @@ own (y ∷ ys) x = by_test (bytes_eq y x) refl (own ys x)
 
 module _ (s : Name → Tm) (same : (x : Name) → s x ≡ Var x) where
   mutual
-    put_own : (t : Tm) → substitute s t ≡ t
+    pub put_own : (t : Tm) → substitute s t ≡ t
     put_own (Var x) = same x
     put_own (Quote v) = refl
     put_own (Call f ts) = ap (Call f) (put_all_own ts)

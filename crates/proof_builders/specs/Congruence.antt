@@ -1,5 +1,5 @@
 -- Two terms that are the same but for calls of one function are equal where those calls are.
-use Rattle.std.specs.Prelude.{◌≡◌, ℕ, suc, Bool, cond, List, [], ◌∷◌, ◌++◌, bytes_eq, if◌then◌else◌}
+use Rattle.std.specs.Prelude.{◌≡◌, ℕ, suc, Bool, cond, List, [], ◌∷◌, ◌++◌, bytes_eq, Some, if◌then◌else◌}
 use Rattle.std.specs.List.{list_any}
 use Rattle.lisp_data.specs.Values.{Name}
 use Rattle.terms.specs.BuiltIn.{no}
@@ -7,6 +7,7 @@ use Rattle.terms.specs.Measures.{Place, Plain, Test, Then, Else, tests_at, next,
 use Rattle.terms.specs.Terms.{Tm, Var, Quote, Call, Tms, Done, More, same_tm}
 use Rattle.terms.specs.Worlds.{World}
 use Rattle.terms.specs.declared.sequent.Sequent.{Sequent}
+use Rattle.kernel.specs.Concludes.{concludes}
 use Rattle.kernel.specs.Conclusion.{Conclusion}
 use Rattle.kernel.specs.Sequents.{equation, negation, conditional}
 use Rattle.plans.specs.Proving.{proves}
@@ -78,24 +79,30 @@ abbrev pub each_replaced : ℕ → List Proof → Proof → Proof
 each_replaced n [] R = R
 each_replaced n (P ∷ ps) R = each_replaced (suc n) ps (Replace P R (2 ∷ n ∷ []))
 
+-- of an equation for the branches that a true test chooses, and of one for those that a false test does, one for the whole `if`s
+abbrev pub where_true : Tm → Tm → Tm → Tm → Tm → Tm → Proof → Proof
+where_true c a b a' b' new P = chained (IfTrue (Hyp c) a b) (chained P (turned (IfTrue (Hyp c) a' b') new))
+
+abbrev pub where_false : Tm → Tm → Tm → Tm → Tm → Tm → Proof → Proof
+where_false c a b a' b' new Q =
+    chained (IfFalse (Hyp (negation c)) a b) (chained Q (turned (IfFalse (Hyp (negation c)) a' b') new))
+
 -- of equations for the branches, each under the test or its negation, one for the `if`s with this test
 abbrev pub by_test : Tm → Tm → Tm → Tm → Tm → Proof → Proof → Proof
 by_test c a b a' b' P Q =
-    Cases c
-    (chained (IfTrue (Hyp c) a b) (chained P (turned (IfTrue (Hyp c) a' b') (conditional c a' b'))))
-    (chained (IfFalse (Hyp (negation c)) a b) (chained Q (turned (IfFalse (Hyp (negation c)) a' b') (conditional c a' b'))))
+    Cases c (where_true c a b a' b' (conditional c a' b') P) (where_false c a b a' b' (conditional c a' b') Q)
 
 abbrev pub by_branches : Tm → Tms → Tms → List Proof → Proof
 by_branches c ts us (P ∷ Q ∷ R ∷ ps) =
     by_test c (first (others ts)) (first (others (others ts))) (first (others us)) (first (others (others us))) Q R
 by_branches c ts us _ = Refl c
 
--- of an equation for each argument, one for the call
-abbrev pub of_args : Place → Name → Tms → Tms → List Proof → Proof
-of_args Plain g ts us ps = each_replaced 1 ps (Refl (Call g ts))
-of_args (Test c) g ts us ps = by_branches c ts us ps
-of_args (Then c) g ts us ps = Refl c
-of_args (Else c) g ts us ps = Refl c
+-- of an equation for each argument ts of the call a, one for the call
+abbrev pub of_args : Place → Tm → Tms → Tms → List Proof → Proof
+of_args Plain a ts us ps = each_replaced 1 ps (Refl a)
+of_args (Test c) a ts us ps = by_branches c ts us ps
+of_args (Then c) a ts us ps = Refl c
+of_args (Else c) a ts us ps = Refl c
 
 abbrev mutual
   pub congruence : Name → Finder → List Tm → Tm → Tm → Proof
@@ -103,7 +110,7 @@ abbrev mutual
   congruence f found tests (Quote v) u = Refl (Quote v)
   congruence f found tests (Call g ts) u =
       cond (bytes_eq f g) (of_call found tests (Call g ts) u)
-      (of_args (first_place f g ts) g ts (args_in u) (congruences f found (first_place f g ts) tests ts (args_in u)))
+      (of_args (first_place f g ts) (Call g ts) ts (args_in u) (congruences f found (first_place f g ts) tests ts (args_in u)))
 
   pub congruences : Name → Finder → Place → List Tm → Tms → Tms → List Proof
   congruences f found p tests Done us = []
@@ -114,10 +121,17 @@ abbrev mutual
 abbrev pub condition : List Tm → List Tm → Difference → Sequent
 condition us hs d = record { universals = us; hyps = hs ++ d.tests; goal = equation d.old d.new }
 
--- the first of proved sequents that proves this; where none does the equation as a hypothesis stands for one
+-- the proof of the first sequent that proves this; where none does the goal as a hypothesis stands for one
+abbrev pub proof_from : List Conclusion → Sequent → Proof
+proof_from [] s = Hyp s.goal
+proof_from (c ∷ cs) s = if proves c.sequent s then c.proof else proof_from cs s
+
 abbrev pub proof_among : List Conclusion → List Tm → List Tm → Finder
-proof_among [] us hs d = Hyp (equation d.old d.new)
-proof_among (c ∷ cs) us hs d = if proves c.sequent (condition us hs d) then c.proof else proof_among cs us hs d
+proof_among cs us hs d = proof_from cs (condition us hs d)
+
+-- it is concluded by its proof
+abbrev pub IsConcluded : World → Conclusion → Type 0
+IsConcluded W c = concludes W c.proof ≡ Some c.sequent
 
 -- one of them proves it
 abbrev pub is_proved_among : List Conclusion → List Tm → List Tm → Difference → Bool

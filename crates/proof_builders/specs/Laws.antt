@@ -8,7 +8,6 @@ use Rattle.terms.specs.Terms.{Tm}
 use Rattle.terms.specs.Worlds.{World, Fits, Each}
 use Rattle.terms.specs.declared.definition.Definition.{Definition}
 use Rattle.terms.specs.declared.sequent.Sequent.{Sequent}
-use Rattle.kernel.specs.Concludes.{concludes}
 use Rattle.kernel.specs.Conclusion.{Conclusion}
 use Rattle.kernel.specs.Sequents.{equation, conditional}
 use Rattle.hints.specs.Start.{conjunction}
@@ -16,7 +15,7 @@ use Rattle.reduction_proofs.specs.Derived.{turned, forth, from_nil}
 use Rattle.reduction_proofs.specs.Proving.{Proves, ProvesCondition}
 use Rattle.reduction_proofs.specs.Trees.{Proof}
 use Rattle.proof_builders.specs.Derived.{chained, both, first_of_both, second_of_both, gathered, scattered}
-use Rattle.proof_builders.specs.Congruence.{Alike, Difference, differences, Finder, IsFound, congruence, proof_among, is_proved_among}
+use Rattle.proof_builders.specs.Congruence.{Alike, Difference, differences, Finder, IsFound, congruence, proof_among, IsConcluded, is_proved_among}
 use Rattle.proof_builders.specs.Schemes.{scheme, induct_on_calls}
 
 -- the sides of an equation are swapped
@@ -73,7 +72,7 @@ BodyCongruenceProves =
 -- a difference that one of the proved sequents proves has its proof among them
 abbrev pub AmongProves : Type 0
 AmongProves =
-    (W : World) (us hs : List Tm) (cs : List Conclusion) → Each (λ c. concludes W c.proof ≡ Some c.sequent) cs → (d : Difference) →
+    (W : World) (us hs : List Tm) (cs : List Conclusion) → Each (IsConcluded W) cs → (d : Difference) →
     is_proved_among cs us hs d ≡ true → IsFound W us hs (proof_among cs us hs) d
 
 -- what is proved from the scheme's hypotheses is proved without them, also where the function isn't recursive

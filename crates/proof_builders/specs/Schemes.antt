@@ -4,6 +4,7 @@ use Rattle.lisp_data.specs.Values.{Name}
 use Rattle.terms.specs.Measures.{mentions, RecursiveCall, recursive_calls}
 use Rattle.terms.specs.Terms.{Tm, substitute, by_args}
 use Rattle.terms.specs.declared.definition.Definition.{Definition}
+use Rattle.terms.specs.declared.sequent.Sequent.{Sequent}
 use Rattle.hints.specs.Start.{implication, conjunction, as_variables}
 use Rattle.reduction_proofs.specs.Start.{by_calls}
 use Rattle.reduction_proofs.specs.Trees.{Proof}
@@ -15,6 +16,10 @@ hypothesis formals g c = implication (conjunction c.tests) (substitute (by_args 
 -- a hypothesis for each recursive call
 abbrev pub scheme : Definition → Tm → List Tm
 scheme d g = map (hypothesis d.formals g) (recursive_calls d.name [] d.body)
+
+-- the condition with the scheme's hypotheses
+abbrev pub with_scheme : Definition → Sequent → Sequent
+with_scheme d c = record { universals = c.universals; hyps = scheme d c.goal; goal = c.goal }
 
 -- where there is no measure, which is never so, the proof stands for none
 abbrev pub by_measure : Definition → Option Tm → Proof → Proof

@@ -1,8 +1,14 @@
-//! Derived rules of proofs, the congruence of bodies and induction on calls: what they prove as laws.
+//! Derived rules of proofs, the congruence of bodies and induction on calls, and what they prove as laws.
 #![tactic(auto)]
 
+mod congruence;
+mod derived;
+mod induction;
 mod laws;
 
+pub use congruence::body_congruence;
+pub use derived::{both, chained, first_of_both, gathered, scattered, second_of_both};
+pub use induction::induct_on_calls;
 pub use laws::{
     among_proves, and_in_all_proves, and_in_proves, and_out_proves, body_congruence_proves,
     conditions_proved, cut_all_proves, equal_out_proves, ex_falso_proves, induct_on_calls_proves,

@@ -24,12 +24,11 @@ use Rattle.proof_objects.specs.declared.step.Step.TheVariants as step
 use Rattle.proof_objects.specs.declared.step.InductionCase.{InductionCase}
 use Rattle.proof_texts.specs.Words.{words, text_of, word_of, kinds_of, is_proof}
 use Rattle.proof_texts.specs.Items.{items_of}
-use Rattle.proof_texts.specs.Refused.{bad_proof, unknown_name, not_built, or_bad}
+use Rattle.proof_texts.specs.Refused.{bad_proof, unknown_name, or_bad}
 use Rattle.proof_texts.specs.Parts.{term_of, terms_of, number_of, path_of, new_variable, with_pair, with_pairs, substitution_of, known_theorem, known_function, known_isomorphism, theorem_of, function_of, isomorphism_of, fact_of, both, pair_of_names, function_pair, functions_of, list_of}
-use Rattle.proof_texts.specs.StepParts.{step_of, all_built}
 use Rattle.proof_texts.specs.Given.{word_for, parts_of}
 use Rattle.proof_texts.specs.Printing.{list_form, word_form, number_form, image_form, substitution_form, fact_form, pair_form, case_form, cases_forms, part_form, laid, step_form, form_of_proof, forms_of_proofs}
-use Rattle.proof_texts.specs.ProofTexts.{Read, nothing, with_part, with_proof, with_cases, no_cases, part_after, part_at, case_of, case_after, word_by, word_at, tree_by, tree_of, tree_from, tree_of_list, parts_from, cases_from, third, proof_of}
+use Rattle.proof_texts.specs.ProofTexts.{Read, nothing, with_part, with_proof, with_cases, no_cases, part_after, part_at, case_of, case_after, word_by, word_at, tree_by, proof_of, tree_from, tree_of_list, parts_from, cases_from, third}
 use Rattle.proof_texts.specs.Laws.{WordsAreFound, StepsAreMade, IsTerm, IsNumber, AreImages, IsSubstitution, IsTheorem, IsFunction, IsIsomorphism, IsFact, IsPair, IsCase, IsPart, AreCases, AreParts, listed, IsReadable, AreReadable, IsProofAgain, ProofsAreReadAgain}
 use Rattle.proof_texts.specs.declared.read.CasesRead.{CasesRead}
 use Rattle.proof_texts.specs.declared.words.Kind.{Kind}
@@ -159,7 +158,7 @@ module _ (W : World) (apart : WordsApart (arity W.functions)) where
   AreReadAs [] [] = Unit {0}
   AreReadAs [] (q ∷ qs) = ⊥
   AreReadAs (f ∷ fs) [] = ⊥
-  AreReadAs (f ∷ fs) (q ∷ qs) = (tree_of W f ≡ Ok q) × AreReadAs fs qs
+  AreReadAs (f ∷ fs) (q ∷ qs) = (proof_of W f ≡ Ok q) × AreReadAs fs qs
 
   cases-again : (c : CasesRead) (cs : List InductionCase) (fs : List Datum) (qs : List ProofTree) → Each (IsCase W) cs → length cs ≡ length qs → AreReadAs fs qs →
       cases_from W c (list_form (cases_forms cs fs)) ≡ Ok (record { cases = c.cases ++ cs; subproofs = c.subproofs ++ qs })
@@ -237,7 +236,7 @@ module _ (W : World) (apart : WordsApart (arity W.functions)) where
       ap (word_by n) (words_found w) ∙ ap (λ b. if b then Ok w else bad_proof) (eq-eqb (length (kinds_of w)) n e)
 
   step-again : (s : Step) (fs : List Datum) (qs : List ProofTree) → AreParts W (kinds_of (word_for s)) (parts_of s) (length qs) → AreReadAs fs qs →
-      tree_of W (step_form s fs) ≡ Ok (By s (trees qs))
+      proof_of W (step_form s fs) ≡ Ok (By s (trees qs))
   step-again s fs qs h a =
       let w = word_for s in
       let forms = laid (kinds_of w) (parts_of s) fs in
@@ -251,7 +250,7 @@ module _ (W : World) (apart : WordsApart (arity W.functions)) where
   trees-listed (Also p ps) = ap (Also p) (trees-listed ps)
 
   mutual
-    tree-again : (p : ProofTree) → IsReadable W p → tree_of W (form_of_proof p) ≡ Ok p
+    tree-again : (p : ProofTree) → IsReadable W p → proof_of W (form_of_proof p) ≡ Ok p
     tree-again (By s ps) h = step-again s (forms_of_proofs ps) (listed ps) h.0 (trees-again ps h.1) ∙ ap (λ ps. Ok (By s ps)) (trees-listed ps)
 
     trees-again : (ps : Trees) → AreReadable W ps → AreReadAs (forms_of_proofs ps) (listed ps)
@@ -259,7 +258,4 @@ module _ (W : World) (apart : WordsApart (arity W.functions)) where
     trees-again (Also p ps) h = (tree-again p h.0, trees-again ps h.1)
 
 pub proofs_again : ProofsAreReadAgain
-proofs_again W apart p h b = record {
-  read = λ n l t. (forms-again (form_of_proof p) t).read n l;
-  proof = ap (λ o. and_then o (λ p. if all_built p then Ok p else not_built)) (tree-again W apart p h) ∙ ap (λ c. if c then Ok p else not_built) b;
-}
+proofs_again W apart p h = record { read = λ n l t. (forms-again (form_of_proof p) t).read n l; proof = tree-again W apart p h }

@@ -9,7 +9,7 @@ use Rattle.lisp_data.specs.Atoms.{in_atom, is_delimiter, leaf, is_sign}
 use Rattle.terms.specs.Terms.{Tm, tms}
 use Rattle.term_forms.specs.Printing.{form_of_term, form_of_arguments}
 use Rattle.terms.proofs.Args.{args}
-use Rattle.proof_objects.specs.ProofTrees.{ProofTree, trees}
+use Rattle.proof_objects.specs.ProofTrees.{ProofTree, trees, depths, depth as depth_of}
 use Rattle.proof_objects.specs.declared.rule.Rule.TheVariants.{Hyp, Refl, Replace, Unfold, Eval, Substitute, IfTrue, IfFalse, Cases, Cut, Weaken, Contradict, Axiom, Ring, ImpliesIn, ImpliesOut, Universal, Discharge, Theorem, Instance, Induct}
 use Rattle.proof_texts.specs.declared.words.Word.{Word}
 use Rattle.proof_texts.specs.declared.words.Word.TheVariants.{Rule, Measure, Isomorphism}
@@ -18,7 +18,6 @@ use Rattle.proof_objects.specs.declared.step.InductionCase.{InductionCase}
 use Rattle.proof_texts.specs.Printing.{form_of_proof, forms_of_proofs, cases_forms, case_form, image_form}
 use Rattle.terms.specs.Substitution.{Pairs}
 use native.Mathlib.Numerals.{unary_clauses}
-use Rattle.proof_texts.proofs.ReadLemmas.{depth-at}
 
 -- each word is a symbol's text
 pub word-symbol : (w : Word) → is_symbol_text (text_of w) ≡ true
@@ -81,6 +80,12 @@ pub ruleset lists = (append_assoc, append-nil, drop_all)
 pub forms-map : (ps : List ProofTree) → forms_of_proofs (trees ps) ≡ map form_of_proof ps
 forms-map [] = refl
 forms-map (p ∷ ps) = ap (λ fs. form_of_proof p ∷ fs) (forms-map ps)
+
+-- a subproof is less deep than the proof
+pub depth-at : (ps : List ProofTree) (i : ℕ) (p : ProofTree) → i < length ps → p ≡ get_or ps i p → depth_of p < depths (trees ps)
+depth-at [] i p h e = absurd (omega arith)
+depth-at (q ∷ ps) zero p h e = omega (arith, ap depth_of e)
+depth-at (q ∷ ps) (suc i) p h e = omega (arith, depth-at ps i p (omega arith) e)
 
 pub ruleset proofs = (forms-map, depth-at, append_assoc, append-nil)
 

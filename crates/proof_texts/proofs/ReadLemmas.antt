@@ -7,14 +7,13 @@ use Rattle.lisp_data.specs.Values.{Name}
 use Rattle.lisp_data.specs.Datum.{Datum, IntForm, SymForm, TextForm, PairForm, depth, deepest, chain, nil_form}
 use Rattle.lisp_data.specs.FormView.{form_of}
 use Rattle.lisp_data.specs.declared.form.Form.{Form}
-use Rattle.proof_objects.specs.ProofTrees.{ProofTree, trees, depths, depth as depth_of}
 use Rattle.terms.specs.Worlds.{World}
 use Rattle.term_forms.specs.Translation.{Outcome, and_then}
 use Rattle.terms.proofs.Names.{same_name}
 use Rattle.proof_texts.specs.Items.{items_of, symbol_of}
 use Rattle.proof_texts.specs.Refused.{bad_proof, or_bad, IsRefusal}
 use Rattle.proof_texts.specs.Words.{kinds_of}
-use Rattle.proof_texts.specs.ProofTexts.{Read, nothing, word_before, word_at, tree_by, tree_of, parts_from, cases_from, third, part_at, case_after, case_at, cases_at, case_of_list, no_cases, tree_of_list}
+use Rattle.proof_texts.specs.ProofTexts.{Read, nothing, word_before, word_at, tree_by, proof_of, parts_from, cases_from, third, part_at, case_after, case_at, cases_at, case_of_list, no_cases, tree_of_list}
 use Rattle.proof_texts.specs.declared.read.CasesRead.{CasesRead}
 use Rattle.proof_texts.specs.declared.words.Kind.{Kind}
 use Rattle.proof_texts.specs.declared.errors.ProofError.{ProofError}
@@ -39,18 +38,18 @@ chain-items (PairForm a d) xs e = by_rest (items_of d) e (λ ys q. chain-items d
         ap (PairForm a) (ih ys q) ∙ ap (λ zs. chain zs nil_form) n
 
 module _ (W : World) where
-  pub list_tree : (xs : List Datum) → tree_of W (chain xs nil_form) ≡ tree_of_list W xs
+  pub list_tree : (xs : List Datum) → proof_of W (chain xs nil_form) ≡ tree_of_list W xs
   list_tree [] = refl
   list_tree (x ∷ xs) = ap (λ o. and_then (word_before x o) (λ w. and_then (parts_from W nothing (kinds_of w) (chain xs nil_form)) (tree_by w))) (items_of-chain xs)
 
-  pub tree_of-items : (f : Datum) (xs : List Datum) → items_of f ≡ Some xs → tree_of W f ≡ tree_of_list W xs
-  tree_of-items f xs e = ap (tree_of W) (chain-items f xs e) ∙ list_tree xs
+  pub proof_of-items : (f : Datum) (xs : List Datum) → items_of f ≡ Some xs → proof_of W f ≡ tree_of_list W xs
+  proof_of-items f xs e = ap (proof_of W) (chain-items f xs e) ∙ list_tree xs
 
-  pub tree_of-none : (f : Datum) → items_of f ≡ None → tree_of W f ≡ bad_proof
-  tree_of-none (IntForm z) e = refl
-  tree_of-none (SymForm s) e = refl
-  tree_of-none (TextForm s) e = refl
-  tree_of-none (PairForm a d) e = by_rest (items_of d) e
+  pub proof_of-none : (f : Datum) → items_of f ≡ None → proof_of W f ≡ bad_proof
+  proof_of-none (IntForm z) e = refl
+  proof_of-none (SymForm s) e = refl
+  proof_of-none (TextForm s) e = refl
+  proof_of-none (PairForm a d) e = by_rest (items_of d) e
     where
       by_rest : (o : Option (List Datum)) → option_map (λ items. a ∷ items) o ≡ None → and_then (word_before a o) (λ w. and_then (parts_from W nothing (kinds_of w) d) (tree_by w)) ≡ bad_proof
       by_rest None e' = refl
@@ -138,16 +137,8 @@ deepest-get_or [] i d h = absurd (omega arith)
 deepest-get_or (x ∷ xs) zero d h = omega arith
 deepest-get_or (x ∷ xs) (suc i) d h = omega (arith, deepest-get_or xs i d (omega arith))
 
-pub ruleset trees_read = (tree_of-items, tree_of-none, deepest_le-items, deepest-parts, deepest-get_or)
+pub ruleset trees_read = (proof_of-items, proof_of-none, deepest_le-items, deepest-parts, deepest-get_or)
 
 pub ruleset parts_read = (parts-more, parts-refused, parts-end, deepest-get_or, proper_at)
 
 pub ruleset cases_read = (case_at-items, case_at-none, cases_at-items, cases_at-none, deepest_le-items, deepest-get_or, proper_at)
-
--- a subproof is less deep than the proof
-pub depth-at : (ps : List ProofTree) (i : ℕ) (p : ProofTree) → i < length ps → p ≡ get_or ps i p → depth_of p < depths (trees ps)
-depth-at [] i p h e = absurd (omega arith)
-depth-at (q ∷ ps) zero p h e = omega (arith, ap depth_of e)
-depth-at (q ∷ ps) (suc i) p h e = omega (arith, depth-at ps i p (omega arith) e)
-
-pub ruleset built = (depth-at)

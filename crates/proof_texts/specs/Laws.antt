@@ -18,7 +18,7 @@ use Rattle.proof_objects.specs.declared.step.Step.{Step}
 use Rattle.proof_objects.specs.declared.step.InductionCase.{InductionCase}
 use Rattle.proof_texts.specs.Words.{text_of, word_of, kinds_of}
 use Rattle.proof_texts.specs.Parts.{any}
-use Rattle.proof_texts.specs.StepParts.{step_of, all_built}
+use Rattle.proof_texts.specs.StepParts.{step_of}
 use Rattle.proof_texts.specs.Given.{word_for, parts_of}
 use Rattle.proof_texts.specs.Printing.{form_of_proof, proof_text}
 use Rattle.proof_texts.specs.ProofTexts.{proof_of}
@@ -121,9 +121,9 @@ pub record IsProofAgain (W : World) (p : ProofTree) : Type 0 where
   pub read : nesting (form_of_proof p) ≤ MAX_NESTING → length (proof_text p) ≤ MAX_BOOK → IsPrintable (form_of_proof p) → book_of (proof_text p) ≡ ((form_of_proof p, 0) ∷ [], None)
   pub proof : proof_of W (form_of_proof p) ≡ Ok p
 
--- each proof of built rules that is well formed in the world
+-- each proof that is well formed in the world
 abbrev pub ProofsAreReadAgainIn : World → Type 0
-ProofsAreReadAgainIn W = (p : ProofTree) → IsReadable W p → all_built p ≡ true → IsProofAgain W p
+ProofsAreReadAgainIn W = (p : ProofTree) → IsReadable W p → IsProofAgain W p
 
 -- in each world where no word of the syntax of terms is a function
 abbrev pub ProofsAreReadAgain : Type 0

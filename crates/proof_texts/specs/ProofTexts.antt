@@ -1,5 +1,5 @@
 -- The proofs of texts. A text is a list of a word and the parts that the table has after it. What is wrong comes from left to right,
--- the number of parts before them, and last of all a rule that isn't there yet.
+-- the number of parts before them.
 use Rattle.std.specs.Prelude.{ℕ, nat_eq, if◌then◌else◌, List, [], ◌∷◌, ◌++◌, length, Option, Some, None, Ok, option_and_then}
 use Rattle.lisp_data.specs.Datum.{Datum, IntForm, SymForm, TextForm, PairForm, chain, nil_form}
 use Rattle.terms.specs.Terms.{Tm}
@@ -8,10 +8,10 @@ use Rattle.terms.specs.Worlds.{World}
 use Rattle.term_forms.specs.Translation.{Outcome, and_then, map_outcome}
 use Rattle.proof_objects.specs.ProofTrees.{ProofTree, By, trees}
 use Rattle.proof_texts.specs.Items.{items_of, symbol_of}
-use Rattle.proof_texts.specs.Refused.{bad_proof, not_built, or_bad}
+use Rattle.proof_texts.specs.Refused.{bad_proof, or_bad}
 use Rattle.proof_texts.specs.Words.{kinds_of, word_of}
 use Rattle.proof_texts.specs.Parts.{list_of, term_of, terms_of, path_of, number_of, substitution_of, theorem_of, function_of, isomorphism_of, fact_of, functions_of}
-use Rattle.proof_texts.specs.StepParts.{step_of, all_built}
+use Rattle.proof_texts.specs.StepParts.{step_of}
 use Rattle.proof_texts.specs.declared.words.Kind.{Kind}
 use Rattle.proof_texts.specs.declared.words.Kind.TheVariants as kind
 use Rattle.proof_texts.specs.declared.words.Word.{Word}
@@ -90,11 +90,11 @@ tree_by w r = map_outcome (λ s. By s (trees r.subproofs)) (or_bad (step_of w r.
 
 abbrev mutual
   -- the proof of a text, whether its rules are there yet or not
-  pub tree_of : World → Datum → Outcome ProofTree
-  tree_of W (IntForm z) = bad_proof
-  tree_of W (SymForm s) = bad_proof
-  tree_of W (TextForm s) = bad_proof
-  tree_of W (PairForm head d) = and_then (word_before head (items_of d)) (λ w. and_then (parts_from W nothing (kinds_of w) d) (tree_by w))
+  pub proof_of : World → Datum → Outcome ProofTree
+  proof_of W (IntForm z) = bad_proof
+  proof_of W (SymForm s) = bad_proof
+  proof_of W (TextForm s) = bad_proof
+  proof_of W (PairForm head d) = and_then (word_before head (items_of d)) (λ w. and_then (parts_from W nothing (kinds_of w) d) (tree_by w))
 
   -- what was read, and the parts of these kinds
   pub parts_from : World → Read → List Kind → Datum → Outcome Read
@@ -103,7 +103,7 @@ abbrev mutual
   parts_from W r ks (TextForm s) = Ok r
   parts_from W r [] (PairForm a d) = Ok r
   parts_from W r (k ∷ ks) (PairForm a d) =
-      and_then (part_after W r k a (tree_of W a) (cases_from W (no_cases r.subproofs) a)) (λ r. parts_from W r ks d)
+      and_then (part_after W r k a (proof_of W a) (cases_from W (no_cases r.subproofs) a)) (λ r. parts_from W r ks d)
 
   -- the cases that were read, and those of a list
   pub cases_from : World → CasesRead → Datum → Outcome CasesRead
@@ -114,12 +114,12 @@ abbrev mutual
 
   -- the proof of the third form of a list
   pub third : World → Datum → Outcome ProofTree
-  third W (PairForm q (PairForm s (PairForm p d))) = tree_of W p
+  third W (PairForm q (PairForm s (PairForm p d))) = proof_of W p
   third W _ = bad_proof
 
 -- a part that a form is
 abbrev pub part_at : World → Read → Kind → Datum → Outcome Read
-part_at W r k d = part_after W r k d (tree_of W d) (cases_from W (no_cases r.subproofs) d)
+part_at W r k d = part_after W r k d (proof_of W d) (cases_from W (no_cases r.subproofs) d)
 
 -- a case that a form is
 abbrev pub case_at : World → CasesRead → Datum → Outcome CasesRead
@@ -139,9 +139,5 @@ tree_of_list W (head ∷ forms) = tree_from W head forms
 
 -- a case from a list of its parts
 abbrev pub case_of_list : World → CasesRead → List Datum → Outcome CasesRead
-case_of_list W c (q ∷ s ∷ p ∷ []) = case_of W c q s (tree_of W p)
+case_of_list W c (q ∷ s ∷ p ∷ []) = case_of W c q s (proof_of W p)
 case_of_list W c _ = bad_proof
-
--- the proof of a text, all of whose rules are there
-abbrev pub proof_of : World → Datum → Outcome ProofTree
-proof_of W form = and_then (tree_of W form) (λ p. if all_built p then Ok p else not_built)

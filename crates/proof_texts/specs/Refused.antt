@@ -2,16 +2,12 @@
 use Rattle.std.specs.Prelude.{◌≡◌, codes, Option, Some, None, Result, Ok, Err}
 use Rattle.lisp_data.specs.Values.{Name}
 use Rattle.lisp_data.specs.declared.code.Code.{Code}
-use Rattle.lisp_data.specs.declared.code.Code.TheVariants.{NotAnEvent, BadForm, UnknownName}
+use Rattle.lisp_data.specs.declared.code.Code.TheVariants.{BadForm, UnknownName}
 use Rattle.lisp_data.specs.declared.detail.Detail.{Detail}
 use Rattle.lisp_data.specs.declared.detail.Detail.TheVariants as detail
 use Rattle.term_forms.specs.Translation.{Outcome}
 use Rattle.proof_texts.specs.declared.errors.ProofError.{ProofError}
 use Rattle.proof_texts.specs.declared.errors.ProofError.TheVariants.{Refused, Memory}
-
--- the proof has a rule that isn't there yet
-abbrev pub not_built : {A : Type 0} → Outcome A
-not_built = Err (NotAnEvent, detail.Absent)
 
 -- the text has another shape than a proof's
 abbrev pub bad_proof : {A : Type 0} → Outcome A

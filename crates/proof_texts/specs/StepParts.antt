@@ -1,12 +1,11 @@
 -- The steps of words and the parts after them that are no proofs.
-use Rattle.std.specs.Prelude.{ℕ, Bool, true, false, ◌&&◌, List, [], ◌∷◌, Option, Some, None, option_map, option_and_then}
+use Rattle.std.specs.Prelude.{ℕ, List, [], ◌∷◌, Option, Some, None, option_map, option_and_then}
 use Rattle.lisp_data.specs.Values.{Name}
 use Rattle.terms.specs.Terms.{Tm}
 use Rattle.terms.specs.Substitution.{Pairs}
 use Rattle.terms.specs.declared.entries.FactName.{FactName}
 use Rattle.terms.specs.declared.entries.FactName.TheVariants as fact
 use Rattle.terms.specs.declared.entries.FunPair.{FunPair}
-use Rattle.proof_objects.specs.ProofTrees.{ProofTree, By, Trees, NoMore, Also}
 use Rattle.proof_objects.specs.declared.rule.Rule.TheVariants as rule
 use Rattle.proof_objects.specs.declared.step.Step.{Step}
 use Rattle.proof_objects.specs.declared.step.Step.TheVariants as step
@@ -101,17 +100,3 @@ step_of Measure = of_two a_name a_number (λ f k. step.Theorem (fact.Measure f k
 step_of Isomorphism = of_two a_name a_number (λ n k. step.Theorem (fact.Isomorphism n k))
 step_of (Rule rule.Instance) = of_two a_fact some_functions step.Instance
 step_of (Rule rule.Induct) = of_two a_term some_cases step.Induct
-
--- the rules take the step: who adds one of these takes its line away
-abbrev pub is_built : Step → Bool
-is_built (step.Instance f ps) = false
-is_built s = true
-
--- and each step of the proof
-abbrev mutual
-  pub all_built : ProofTree → Bool
-  all_built (By s ps) = is_built s && each_built ps
-
-  pub each_built : Trees → Bool
-  each_built NoMore = true
-  each_built (Also p ps) = all_built p && each_built ps

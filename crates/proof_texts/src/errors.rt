@@ -14,19 +14,9 @@ pub enum ProofError {
 
 impl ProofError {
     ghost use Rattle.std.specs.Prelude.{codes};
-    ghost use Rattle.lisp_data.specs.declared.code.Code.TheVariants.{NotAnEvent, BadForm, UnknownName};
-    ghost use Rattle.lisp_data.specs.declared.detail.Detail.TheVariants.{Absent, Name};
+    ghost use Rattle.lisp_data.specs.declared.code.Code.TheVariants.{BadForm, UnknownName};
+    ghost use Rattle.lisp_data.specs.declared.detail.Detail.TheVariants.{Name};
     ghost use Rattle.proof_texts.specs.Refused.{IsError};
-
-    /// The proof has a rule that isn't there yet.
-    pub(crate) fn not_built() -> ProofError
-        ensures { IsError NotAnEvent Absent result }
-    {
-        ProofError::Refused {
-            code: Code::NotAnEvent,
-            detail: Detail::Absent,
-        }
-    }
 
     fn with_name(code: Code, name: &Symbol) -> ProofError
         ensures { IsError code (Name name.now) result }

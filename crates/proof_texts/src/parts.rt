@@ -275,8 +275,8 @@ fn pointed(form: &Form) -> Option<(&Form, &Form)>
     }
 }
 
-/// The two symbols of a pair with a point between them.
-fn two_symbols(form: &Form) -> Option<(&Symbol, &Symbol)>
+/// The two symbols of a pair with a point between them, `(?f . g)` (docs/SYNTAX.md).
+pub fn two_symbols(form: &Form) -> Option<(&Symbol, &Symbol)>
     requires { IsProper form.now }
     ensures { option_map (λ p. (p.0.now, p.1.now)) result ≡ spec.two_symbols (form_of form.now) }
 {

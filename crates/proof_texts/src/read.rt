@@ -5,10 +5,8 @@ ghost use Rattle.lisp_data.specs.Datum.{chain, nil_form};
 ghost use Rattle.lisp_data.specs.FormView.{form_of, IsProper, AllProper};
 ghost use Rattle.proof_texts.specs.ProofTexts as spec;
 ghost use Rattle.proof_texts.specs.ProofTexts.{read_of};
-ghost use Rattle.proof_texts.specs.StepParts.{all_built, each_built};
 ghost use Rattle.proof_texts.specs.Words.{kinds_of};
 ghost use Rattle.proof_texts.specs.Refused.{Says};
-ghost use Rattle.proof_objects.specs.ProofTrees.{trees};
 
 use crate::errors::ProofError;
 use crate::forms::{items, symbol};
@@ -16,7 +14,7 @@ use crate::parts::{
     read_fact, read_function, read_functions, read_isomorphism, read_number, read_path,
     read_substitution, read_term, read_terms, read_theorem,
 };
-use crate::steps::{Part, is_built, step_of};
+use crate::steps::{Part, step_of};
 use crate::words::{Kind, Word};
 use lisp_data::{Form, Memory, Seq};
 use proof_objects::{InductionCase, InductionCases, Proof};
@@ -77,12 +75,12 @@ fn read_word(alloc: Global, head: &Form, count: usize) -> Result<Word, ProofErro
     }
 }
 
-/// The proof whose text a form is, or the first refusal.
+/// The proof whose text a form is, or the first refusal (docs/SYNTAX.md, "Texts of proofs").
 #[cycle(proof)]
 #[tactic(auto, using(crate::proofs::ReadLemmas::trees_read))]
-fn read_tree(alloc: Global, world: &World, form: &Form) -> Result<Proof, ProofError>
+pub fn read_proof(alloc: Global, world: &World, form: &Form) -> Result<Proof, ProofError>
     requires { IsProper form.now }
-    ensures { Says (λ p. p) (spec.tree_of world.now (form_of form.now)) result }
+    ensures { Says (λ p. p) (spec.proof_of world.now (form_of form.now)) result }
 {
     match items(form) {
         Some(items) => read_items(alloc, world, items),
@@ -144,7 +142,7 @@ fn read_part(
     ensures { Says read_of (spec.part_at world.now (read_of read) kind (form_of form.now)) result }
 {
     let read = match kind {
-        Kind::Proof => read.with_proof(read_tree(alloc, world, form)?)?,
+        Kind::Proof => read.with_proof(read_proof(alloc, world, form)?)?,
         Kind::Term => read.with(Part::Term(read_term(alloc, world, form)?))?,
         Kind::Terms => read.with(Part::Terms(read_terms(alloc, world, form)?))?,
         Kind::Path => read.with(Part::Path(read_path(alloc, form)?))?,
@@ -253,11 +251,11 @@ fn case_of(
     requires test { IsProper test.now }
     requires substitution { IsProper substitution.now }
     requires proof { IsProper proof.now }
-    ensures { Says (λ c. c) (spec.case_of world.now read (form_of test.now) (form_of substitution.now) (spec.tree_of world.now (form_of proof.now))) result }
+    ensures { Says (λ c. c) (spec.case_of world.now read (form_of test.now) (form_of substitution.now) (spec.proof_of world.now (form_of proof.now))) result }
 {
     let test = read_term(alloc, world, test)?;
     let subst = read_substitution(alloc, world, substitution)?;
-    let proof = read_tree(alloc, world, proof)?;
+    let proof = read_proof(alloc, world, proof)?;
     let CasesRead {
         mut cases,
         mut subproofs,
@@ -265,39 +263,4 @@ fn case_of(
     cases.push(InductionCase { test, subst })?;
     subproofs.push(proof)?;
     Ok(CasesRead { cases, subproofs })
-}
-
-/// Whether the rules take each step so far.
-#[cycle(built)]
-fn all_built(proof: &Proof) -> bool
-    ensures { result ≡ all_built proof.now }
-{
-    let node = proof.node();
-    is_built(&node.step) && each_built(node.subproofs.as_slice())
-}
-
-#[cycle(built)]
-#[tactic(auto, using(crate::proofs::ReadLemmas::built))]
-fn each_built(proofs: &[Proof]) -> bool
-    ensures { result ≡ each_built (trees proofs.now) }
-{
-    for proof in proofs {
-        if !all_built(proof) {
-            return false;
-        }
-    }
-    true
-}
-
-/// The proof whose text a form is, or the first refusal (docs/SYNTAX.md, "Texts of proofs").
-pub fn read_proof(alloc: Global, world: &World, form: &Form) -> Result<Proof, ProofError>
-    requires { IsProper form.now }
-    ensures { Says (λ p. p) (spec.proof_of world.now (form_of form.now)) result }
-{
-    let proof = read_tree(alloc, world, form)?;
-    if all_built(&proof) {
-        Ok(proof)
-    } else {
-        Err(ProofError::not_built())
-    }
 }

@@ -222,13 +222,3 @@ pub(crate) fn step_of(word: Word, parts: Vec<Part>) -> Option<Step>
         }
     }
 }
-
-/// Whether the rules take the step so far.
-pub(crate) fn is_built(step: &Step) -> bool
-    ensures { result ≡ spec.is_built step.now }
-{
-    match step {
-        Step::Instance(_, _) => false,
-        _ => true,
-    }
-}

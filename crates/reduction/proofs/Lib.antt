@@ -3,6 +3,7 @@ pub mod Unary
 pub mod Ground
 pub mod Bodies
 pub mod Firsts
+pub mod LeftOut
 pub mod Matching
 pub mod Seeking
 pub mod Moving

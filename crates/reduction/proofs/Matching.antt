@@ -1,10 +1,12 @@
 -- Patterns and terms, argument by argument.
-use Rattle.std.proofs.Common.{◌≡◌, ◌≢◌, ℕ, ◌+◌, ◌<◌, ◌≤◌, List, [], ◌∷◌, length, get_or, drop, Option, Some, None, refl, ap, ◌∙◌, arith}
+use Rattle.std.proofs.Common.{◌≡◌, ◌≢◌, ℕ, ◌+◌, ◌<◌, ◌≤◌, Bool, true, false, bytes_eq, List, [], ◌∷◌, length, get_or, drop, Option, Some, None, refl, ap, ◌∙◌, arith}
 use Rattle.std.proofs.lemmas.List.{drop_all}
+use Rattle.lisp_data.specs.Values.{Name}
 use Rattle.terms.specs.Substitution.{Pairs}
-use Rattle.terms.specs.Terms.{Tm, Done, More, tms}
+use Rattle.terms.specs.Terms.{Tm, Call, Tms, Done, More, tms}
 use Rattle.terms.specs.Evaluation.{then_with}
 use Rattle.terms.proofs.Args.{args, tms-drop}
+use Rattle.reduction.specs.Finding.{only}
 use Rattle.reduction.specs.Rules.{matched, matched_all}
 
 then-none : {A B : Type 0} (o : Option A) (k : A → Option B) → ((x : A) → k x ≡ None) → then_with o k ≡ None
@@ -30,3 +32,17 @@ matched-end ps ts i s h n =
     ap (λ us. matched_all (tms us) (tms (drop i ts)) s) (drop_all i ps h) ∙ ap (λ us. matched_all Done (tms us) s) (drop_all i ts (omega arith))
 
 pub ruleset matching = (args, matched-lengths, matched-more, matched-end)
+
+-- a call of another function isn't an instance
+pub call-apart : (f g : Name) (ps ts : Tms) (s : Pairs) → bytes_eq f g ≡ false → matched (Call f ps) (Call g ts) s ≡ None
+call-apart f g ps ts s e = ap (λ b. only b (matched_all ps ts s)) e
+
+only-none : {A : Type 0} (b : Bool) → only {A = A} b None ≡ None
+only-none true = refl
+only-none false = refl
+
+-- nor is one on another number of arguments
+pub args-apart : (f g : Name) (ps ts : List Tm) (s : Pairs) → length ps ≢ length ts → matched (Call f (tms ps)) (Call g (tms ts)) s ≡ None
+args-apart f g ps ts s h = ap (only (bytes_eq f g)) (matched-lengths ps ts s h) ∙ only-none (bytes_eq f g)
+
+pub ruleset apart = (call-apart, args-apart)

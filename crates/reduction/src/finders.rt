@@ -93,14 +93,20 @@ fn by_equation(term: &Term, hyp: &Term) -> Finding
     }
 }
 
-/// The same, where the hypothesis isn't left out.
+/// The same, where the hypothesis isn't left out. That is seen last, since it compares whole hypotheses.
+#[tactic(auto, using(crate::proofs::LeftOut::left_out))]
 fn by_other(others: &Others<'_>, term: &Term, hyp: &Term) -> Finding
     ensures { IfOk result (λ o. o ≡ spec.by_other (option_copied others.now.except) term.now hyp.now) }
 {
-    if others.leaves_out(hyp) {
-        Ok(None)
-    } else {
-        by_equation(term, hyp)
+    match by_equation(term, hyp)? {
+        None => Ok(None),
+        Some(found) => {
+            if others.leaves_out(hyp) {
+                Ok(None)
+            } else {
+                Ok(Some(found))
+            }
+        }
     }
 }
 

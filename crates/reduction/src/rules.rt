@@ -1,9 +1,10 @@
 //! Rules: what an instance of a rule's left side becomes.
 
-ghost use Rattle.std.specs.Prelude.{◌≡◌, IfOk};
+ghost use Rattle.std.specs.Prelude.{◌≡◌, None, IsTrue, IfOk};
 ghost use Rattle.std.specs.Option.{option_map};
 ghost use Rattle.terms.specs.Terms.{tms, same_tm};
 ghost use Rattle.terms.specs.Primitives.{lookup};
+ghost use Rattle.terms.specs.Substitution.{Pairs};
 ghost use Rattle.reduction.specs.Rules as spec;
 ghost use Rattle.reduction.specs.Hyps.{left};
 
@@ -106,6 +107,19 @@ fn matched(pattern: &Term, term: &Term, s: Subst) -> Matched
     }
 }
 
+/// Whether the pattern, a call, is the term under no substitution, as the term is none of that function on as many
+/// arguments.
+#[tactic(auto, using(crate::proofs::Matching::apart))]
+fn is_apart(pattern: &Term, term: &Term) -> bool
+    ensures { IsTrue result → (s : Pairs) → spec.matched pattern.now term.now s ≡ None }
+{
+    match (pattern.node(), term.node()) {
+        (Node::Call(f, ps), Node::Call(g, ts)) => ps.len() != ts.len() || !f.same(g),
+        (Node::Call(_, _), _) => true,
+        _ => false,
+    }
+}
+
 /// Whether each is a hypothesis or a quoted value other than NIL, under the substitution.
 #[tactic(auto, using(crate::proofs::Firsts::items))]
 fn all_proved(alloc: Global, others: &Others<'_>, s: &Subst, needs: &[Term]) -> Result<bool, Memory>
@@ -140,6 +154,9 @@ fn by_match(alloc: Global, others: &Others<'_>, rule: &Rule, s: Subst) -> Findin
 fn by_rule(alloc: Global, others: &Others<'_>, term: &Term, rule: &Rule) -> Finding
     ensures { IfOk result (λ o. o ≡ spec.by_rule (left others.now) term.now rule.now) }
 {
+    if is_apart(&rule.left, term) {
+        return Ok(None);
+    }
     match matched(&rule.left, term, Subst::new(alloc))? {
         None => Ok(None),
         Some(s) => {

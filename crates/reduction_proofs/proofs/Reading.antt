@@ -16,7 +16,10 @@ use Rattle.terms.specs.Terms.{Tm, substitute}
 use Rattle.terms.specs.Worlds.{World, Functions, arity, is_in, IsIn, Distinct, Fits, Each}
 use Rattle.terms.specs.Formed.{FitsOver}
 use Rattle.terms.specs.declared.definition.Definition.{Definition}
+use Rattle.terms.specs.declared.entries.FunPair.{FunPair}
 use Rattle.terms.specs.declared.entries.Specification.{Specification}
+use Rattle.terms.specs.Instances.{instance_map, sequent_terms, renamed_sequent}
+use Rattle.terms.specs.Maps.{NamePairs}
 use Rattle.terms.specs.declared.sequent.Sequent.{Sequent}
 use Rattle.terms.proofs.Below.{Any}
 use Rattle.terms.proofs.Extend.{over_map}
@@ -31,6 +34,8 @@ use Rattle.term_forms.proofs.TranslatedTerms.{translated_terms_fit}
 use Rattle.worlds.specs.Lookups.{find_spec}
 use Rattle.proof_texts.specs.Items.{items_of, is_word}
 use Rattle.kernel.specs.Axioms.{axiom_at, axiom_instance}
+use Rattle.kernel.specs.Concludes.{concludes}
+use Rattle.kernel.specs.Facts.{unless_refused, under_pairs}
 use Rattle.kernel.specs.Fitting.{pairs_fit}
 use Rattle.kernel.specs.Sequents.{of_goal}
 use Rattle.kernel.proofs.Inversions.{map_some, if_some, then_some}
@@ -40,16 +45,17 @@ use Rattle.reduction.specs.declared.rules.Rule.{Rule}
 use Rattle.reduction.specs.Finding.{only}
 use Rattle.reduction.specs.Hyps.{has}
 use Rattle.hints.specs.declared.hint.Fact.{Fact}
-use Rattle.hints.specs.declared.hint.Fact.TheVariants.{Axiom, Theorem, Assumed}
+use Rattle.hints.specs.declared.hint.Fact.TheVariants.{Axiom, Theorem, Instance, Assumed}
 use Rattle.hints.specs.declared.hint.Hints.{Hints}
 use Rattle.hints.specs.declared.hint.Scheme.{Scheme}
 use Rattle.hints.specs.declared.hint.Use.{Use}
 use Rattle.hints.specs.Facts.{says, all_in, listed, rule_from, rules_from, rule_axioms, theorem_names, built_in, rule_by}
 use Rattle.hints.specs.Formulas.{remains, needs, reading, covers, rule_of}
 use Rattle.hints.specs.Refused.{or_bad}
-use Rattle.hints.specs.Steps.{through, any, term_of, name_of, defined_by, defined, with_opened, with_case, with_expanded, with_made, with_theorem, with_rule, with_variable, is_recursive, scheme_on, scheme_by, scheme_of, cited, number_in, numbered, by_number, assumed, by_name, cited_in, new_variable, pair_by, with_pair, pairs_of, use_under, use_by, with_scheme, with_use, with_cases, with_names, with_calls, with_rules, with_word, with_items, with_step, no_hints, hints_from}
+use Rattle.hints.specs.Steps.{through, any, term_of, name_of, defined_by, defined, with_opened, with_case, with_expanded, with_made, with_theorem, with_rule, with_variable, is_recursive, scheme_on, scheme_by, scheme_of, cited, number_in, numbered, by_number, assumed, by_name, with_function, instance_with, instance_by, instance_of, instance_from, cited_in, new_variable, pair_by, with_pair, pairs_of, use_under, use_by, with_scheme, with_use, with_cases, with_names, with_calls, with_rules, with_word, with_items, with_step, no_hints, hints_from}
 use Rattle.reduction_proofs.specs.Laws.{HintsFit}
 use Rattle.reduction_proofs.specs.Proving.{IsRule, IsFact, IsUse, IsOver, IsScheme, FitsHints}
+use Rattle.reduction_proofs.specs.Trees as tree
 use Rattle.reduction_proofs.proofs.Sure.{Sure, some_is, sure_then, sure_when}
 
 -- ---- what is true of all that is read, by the form in which it is
@@ -283,11 +289,34 @@ module _ (W : World) (sound : Sound W) (us : List Tm) where
       (λ q. gives_ok (Served use_under) (cited (Theorem n) s.goal) (serves (Theorem n) s.goal (record { sequent = s; told = e; universals_in = q; goal = refl })))
       (λ q. gives_err (Served use_under) _)
 
+  -- what the map of a theorem's pairs makes of it is what its instance concludes
+  instance_told : (n : Name) (ps : List FunPair) (s : Sequent) (m : NamePairs) → lookup W.theorems n ≡ Some s → instance_map W (sequent_terms s) ps ≡ Ok m →
+      concludes W (tree.Instance n ps) ≡ Some (renamed_sequent m s)
+  instance_told n ps s m e q =
+      ap (λ o. then_with o (under_pairs W ps)) e ∙ ap (λ o. option_map (λ (k : NamePairs). renamed_sequent k s) (unless_refused o)) q
+
+  instance_serves : (n : Name) (ps : List FunPair) (s : Sequent) → lookup W.theorems n ≡ Some s → Gives (Served use_under) (instance_by W us n ps s)
+  instance_serves n ps s e = gives_then (Served use_under) (instance_map W (sequent_terms s) ps) (λ m. instance_with us n ps (renamed_sequent m s)) (λ m q.
+      let c : Sequent = renamed_sequent m s in
+      gives_if (Served use_under) (all_in us c.universals) (Ok (cited (Instance n ps) c.goal)) _
+      (λ h. gives_ok (Served use_under) (cited (Instance n ps) c.goal)
+      (serves (Instance n ps) c.goal (record { sequent = c; told = instance_told n ps s m e q; universals_in = h; goal = refl })))
+      (λ h. gives_err (Served use_under) _))
+
+  instance_serves_of : (n : Name) (ds : List Datum) (o : Option Sequent) → lookup W.theorems n ≡ o → Gives (Served use_under) (instance_of W us n ds o)
+  instance_serves_of n ds None e = gives_err (Served use_under) _
+  instance_serves_of n ds (Some s) e = gives_then (Served use_under) (through with_function [] ds) _ (λ ps q. instance_serves n ps s e)
+
+  instance_serves_from : (o : Option (List Datum)) → Gives (Served use_under) (instance_from W us o)
+  instance_serves_from None = gives_err (Served use_under) _
+  instance_serves_from (Some []) = gives_err (Served use_under) _
+  instance_serves_from (Some (n ∷ ds)) = gives_then (Served use_under) (name_of n) _ (λ k e. instance_serves_of k ds (lookup W.theorems k) refl)
+
   cited_serves : (d : Datum) → Gives (Served use_under) (cited_in W us d)
   cited_serves (IntForm z) = numbered_serves z
   cited_serves (SymForm n) = named_serves n (lookup W.theorems n) refl
   cited_serves (TextForm s) = gives_err (Served use_under) _
-  cited_serves (PairForm a d) = gives_err (Served use_under) _
+  cited_serves (PairForm a d) = instance_serves_from (items_of (PairForm a d))
 
   pair_fits_by : (s : Pairs) → Paired s → (o : Option (List Datum)) → Gives Paired (pair_by W s o)
   pair_fits_by s h None = gives_err Paired _

@@ -1,5 +1,5 @@
 -- What rules give.
-use Rattle.std.proofs.Common.{◌≡◌, ℕ, Bool, true, false, cond, List, [], ◌∷◌, ◌++◌, bytes_eq, codes, Option, Some, None, refl, sym, ap, ◌∙◌, subst}
+use Rattle.std.proofs.Common.{◌≡◌, ℕ, Bool, true, false, cond, List, [], ◌∷◌, ◌++◌, map, bytes_eq, codes, Option, Some, None, refl, sym, ap, ◌∙◌, subst}
 use Rattle.std.specs.List.{list_all}
 use Rattle.std.proofs.lemmas.Bool.{and_parts, and_from}
 use Rattle.lisp_data.specs.Values.{Name}
@@ -11,7 +11,11 @@ use Rattle.terms.specs.Sound.{Sound}
 use Rattle.terms.specs.Substitution.{Pairs, by_pairs, or_var}
 use Rattle.terms.specs.Terms.{same_tm, Tm, Var, Quote, Call, Tms, Done, More, count, substitute, substitute_all}
 use Rattle.terms.specs.Worlds.{Functions, World, arity, Each}
+use Rattle.terms.specs.declared.entries.FunPair.{FunPair}
 use Rattle.terms.specs.declared.sequent.Sequent.{Sequent}
+use Rattle.terms.specs.Instances.{instance_map, sequent_terms, renamed_sequent}
+use Rattle.terms.specs.Joins.{without_repeats}
+use Rattle.terms.specs.Maps.{NamePairs, rename}
 use Rattle.terms.proofs.Lists.{each_to}
 use Rattle.terms.proofs.Models.{is_if}
 use Rattle.terms.proofs.Names.{same_name, name_self}
@@ -19,6 +23,7 @@ use Rattle.terms.proofs.Same.{same_term}
 use Rattle.kernel.specs.Axioms.{axiom_at, axiom_instance, on_truth, less, consp, integerp, symbolp}
 use Rattle.kernel.specs.Concludes.{concludes}
 use Rattle.kernel.specs.Conclusion.{alone}
+use Rattle.kernel.specs.Facts.{unless_refused, under_pairs}
 use Rattle.kernel.specs.Fitting.{takes, fits, fit_all, pairs_fit}
 use Rattle.kernel.specs.Sequents.{equation, negation, implication, conditional, of_goal}
 use Rattle.kernel.proofs.Inversions.{map_some, if_some}
@@ -36,7 +41,7 @@ use Rattle.hints.specs.Formulas.{parts, parts_in, needs, needs_in, remains, rema
 use Rattle.reduction_proofs.specs.Derived.{back, is_t_by}
 use Rattle.reduction_proofs.specs.Proving.{Within, Proves, IsRule}
 use Rattle.reduction_proofs.specs.Reasons.{decided, part_proved, part_in, detached, detached_in, as_equation, ruled}
-use Rattle.reduction_proofs.specs.Trees.{Proof, Substitute, IfTrue, ImpliesOut, Axiom}
+use Rattle.reduction_proofs.specs.Trees.{Proof, Substitute, IfTrue, ImpliesOut, Axiom, Instance}
 use Rattle.reduction_proofs.proofs.Members.{Fit}
 use Rattle.reduction_proofs.proofs.Deduction.{by_if_true, by_implies_out, by_an_axiom, by_instance}
 use Rattle.reduction_proofs.proofs.Shortcuts.{by_back, by_is_nil}
@@ -135,6 +140,9 @@ lookup_each P (p ∷ es) n a h e = by_test (bytes_eq p.0 n) e (lookup_each P es 
     by_test true q ih = subst P (some_is q) h.0
     by_test false q ih = ih q
 
+theorem_alone : (W : World) → Sound W → (n : Name) (c : Sequent) → lookup W.theorems n ≡ Some c → c.hyps ≡ []
+theorem_alone W sound n c e = lookup_each (λ (q : Sequent). q.hyps ≡ []) W.theorems n c (each_to _ _ (λ t h. h.0) W.theorems sound.theorems) e
+
 axiom_alone : (W : Functions) (k : ℕ) (s : Pairs) (c : Sequent) → axiom_instance W k s ≡ Some c → c.hyps ≡ []
 axiom_alone W k s c e =
     let a = if_some (pairs_fit W s) _ c e in
@@ -143,7 +151,7 @@ axiom_alone W k s c e =
 
 no_hyps : (W : World) → Sound W → (k : Source) (c : Sequent) → says W k ≡ Some c → c.hyps ≡ []
 no_hyps W sound (AxiomSource k) c e = axiom_alone W.functions k [] c e
-no_hyps W sound (TheoremSource n) c e = lookup_each (λ (q : Sequent). q.hyps ≡ []) W.theorems n c (each_to _ _ (λ t h. h.0) W.theorems sound.theorems) e
+no_hyps W sound (TheoremSource n) c e = theorem_alone W sound n c e
 
 -- what an axiom or a theorem says is proved
 pub said_proved : (W : World) → Sound W → (us : List Tm) (k : Source) (c : Sequent) → says W k ≡ Some c → all_in us c.universals ≡ true → Proves W us [] c.goal (alone (citing k))
@@ -153,6 +161,24 @@ said_proved W sound us k c e h = record {
   concluded = e;
   universals_in = all_in_each us c.universals h;
   hyps_in = subst (Each (Within [])) (sym (no_hyps W sound k c e)) tt;
+}
+
+-- a function instance of a theorem has no hypotheses either
+instance_alone : (W : World) → Sound W → (n : Name) (ps : List FunPair) → Sure (λ (c : Sequent). c.hyps ≡ []) (concludes W (Instance n ps))
+instance_alone W sound n ps =
+    let P : Sequent → Type 0 = λ c. c.hyps ≡ [] in
+    sure_then P (lookup W.theorems n) (under_pairs W ps) (λ q e.
+    sure_option_map P (unless_refused (instance_map W (sequent_terms q) ps)) (λ (m : NamePairs). renamed_sequent m q)
+    (λ m h. ap (λ (hs : List Tm). without_repeats (map (rename m) hs)) (theorem_alone W sound n q e)))
+
+pub instance_proved : (W : World) → Sound W → (us : List Tm) (n : Name) (ps : List FunPair) (c : Sequent) → concludes W (Instance n ps) ≡ Some c →
+    all_in us c.universals ≡ true → Proves W us [] c.goal (Instance n ps)
+instance_proved W sound us n ps c e h = record {
+  universals = c.universals;
+  hyps = c.hyps;
+  concluded = e;
+  universals_in = all_in_each us c.universals h;
+  hyps_in = subst (Each (Within [])) (sym ((instance_alone W sound n ps).so c e)) tt;
 }
 
 -- ---- what the rule of a source is

@@ -9,6 +9,7 @@ use Rattle.terms.specs.Substitution.{by_pairs}
 use Rattle.terms.specs.Terms.{Tm, substitute}
 use Rattle.terms.specs.Worlds.{World, Distinct, Each}
 use Rattle.terms.specs.declared.definition.Definition.{Definition}
+use Rattle.terms.specs.declared.entries.FunPair.{FunPair}
 use Rattle.terms.proofs.Later.{has_basics}
 use Rattle.terms.proofs.Lists.{join_to}
 use Rattle.kernel.specs.Conclusion.{alone}
@@ -21,15 +22,16 @@ use Rattle.reduction.specs.declared.run.Made.{Made}
 use Rattle.reduction.specs.declared.run.Outcome.TheVariants.{Closed}
 use Rattle.reduction.specs.Moves.{subgoal}
 use Rattle.hints.specs.declared.hint.Fact.{Fact}
-use Rattle.hints.specs.declared.hint.Fact.TheVariants.{Axiom, Theorem, Assumed}
+use Rattle.hints.specs.declared.hint.Fact.TheVariants.{Axiom, Theorem, Instance, Assumed}
 use Rattle.hints.specs.declared.hint.Hints.{Hints}
 use Rattle.hints.specs.declared.hint.Scheme.{Scheme}
 use Rattle.hints.specs.declared.hint.Use.{Use}
 use Rattle.hints.specs.Facts.{citing}
 use Rattle.hints.specs.Start.{folded, hypothesis, as_variables, by_defined, inducted, with_hyps, start, reduced}
 use Rattle.reduction_proofs.specs.Laws.{ReductionsProve}
-use Rattle.reduction_proofs.specs.Proving.{Within, Proves, AllProved, IsSaid, IsFact, IsUse, IsOver, IsScheme, FitsHints}
+use Rattle.reduction_proofs.specs.Proving.{Within, Proves, AllProved, IsSaid, IsInstance, IsFact, IsUse, IsOver, IsScheme, FitsHints}
 use Rattle.reduction_proofs.specs.Start.{fact_under, without_uses, by_measure, by_definition, before_induction, first_or, proof_of}
+use Rattle.reduction_proofs.specs.Trees as tree
 use Rattle.reduction_proofs.specs.Trees.{Proof, Hyp, Substitute, Cut}
 use Rattle.reduction_proofs.specs.WayBack.{proofs}
 use Rattle.reduction_proofs.proofs.Members.{Fit, each_fit, each_left, each_right}
@@ -38,7 +40,7 @@ use Rattle.reduction_proofs.proofs.Induction.{folded_fits, hypotheses_fit, induc
 use Rattle.reduction_proofs.proofs.Moves.{Ok}
 use Rattle.reduction_proofs.proofs.Recursive.{has_measure, is_recursive}
 use Rattle.reduction_proofs.proofs.Reduced.{goal_fits, proves_fit, reduce_proves}
-use Rattle.reduction_proofs.proofs.Rules.{said_proved}
+use Rattle.reduction_proofs.proofs.Rules.{said_proved, instance_proved}
 
 none_not : (o : Option Tm) → o ≡ None → is_some o ≡ true → ⊥
 none_not None e h = cc
@@ -55,9 +57,17 @@ module _ (W : World) (sound : Sound W) (us : List Tm) where
       subst (λ g. Proves W us [] g P) (ap (substitute (by_pairs u.s)) is.goal ∙ sym e)
       (by_instance W us [] is.sequent.goal u.s (alone (citing k)) (said_proved W sound us k is.sequent is.told is.universals_in) f)
 
+  instance_under : (n : Name) (ps : List FunPair) (u : Use) (t : Tm) → IsInstance W us n ps t → pairs_fit W.functions u.s ≡ true → u.hyp ≡ substitute (by_pairs u.s) t →
+      Proves W us [] u.hyp (Substitute (tree.Instance n ps) u.s)
+  instance_under n ps u t is f e =
+      let P : Proof = Substitute (tree.Instance n ps) u.s in
+      subst (λ g. Proves W us [] g P) (ap (substitute (by_pairs u.s)) is.goal ∙ sym e)
+      (by_instance W us [] is.sequent.goal u.s (tree.Instance n ps) (instance_proved W sound us n ps is.sequent is.told is.universals_in) f)
+
   fact_proved : (u : Use) (fact : Fact) (t : Tm) → IsFact W us fact t → pairs_fit W.functions u.s ≡ true → u.hyp ≡ substitute (by_pairs u.s) t → Proves W us [] u.hyp (fact_under u.s fact)
   fact_proved u (Axiom k) t is f e = said_under (source.Axiom k) u t is f e
   fact_proved u (Theorem n) t is f e = said_under (source.Theorem n) u t is f e
+  fact_proved u (Instance n ps) t is f e = instance_under n ps u t is f e
   fact_proved u (Assumed v) t is f e =
       subst (λ g. Proves W us [] g (fact_under u.s (Assumed v))) (ap (substitute (by_pairs u.s)) is.0 ∙ sym e)
       (record { universals = v ∷ []; hyps = []; concluded = rw ((fits_decides W.functions v).1 is.2) (rw f refl); universals_in = (is.1, tt); hyps_in = tt })

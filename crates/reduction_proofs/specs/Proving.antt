@@ -7,6 +7,7 @@ use Rattle.terms.specs.Substitution.{by_pairs}
 use Rattle.terms.specs.Terms.{Tm, substitute}
 use Rattle.terms.specs.Worlds.{World, Each, Distinct, Fits}
 use Rattle.terms.specs.declared.definition.Definition.{Definition}
+use Rattle.terms.specs.declared.entries.FunPair.{FunPair}
 use Rattle.terms.specs.declared.sequent.Sequent.{Sequent}
 use Rattle.kernel.specs.Concludes.{concludes}
 use Rattle.plans.specs.Proving.{proves}
@@ -16,11 +17,12 @@ use Rattle.reduction.specs.declared.moves.Subgoal.{Subgoal}
 use Rattle.reduction.specs.declared.rules.Rule.{Rule}
 use Rattle.reduction.specs.Hyps.{has}
 use Rattle.hints.specs.declared.hint.Fact.{Fact}
-use Rattle.hints.specs.declared.hint.Fact.TheVariants.{Axiom, Theorem, Assumed}
+use Rattle.hints.specs.declared.hint.Fact.TheVariants.{Axiom, Theorem, Instance, Assumed}
 use Rattle.hints.specs.declared.hint.Hints.{Hints}
 use Rattle.hints.specs.declared.hint.Scheme.{Scheme}
 use Rattle.hints.specs.declared.hint.Use.{Use}
 use Rattle.hints.specs.Facts.{says, all_in, rule_from}
+use Rattle.reduction_proofs.specs.Trees as tree
 use Rattle.reduction_proofs.specs.Trees.{Proof}
 
 abbrev pub Within : List Tm → Tm → Type 0
@@ -62,10 +64,18 @@ pub record IsSaid (W : World) (us : List Tm) (k : Source) (t : Tm) : Type 0 wher
   pub universals_in : all_in us sequent.universals ≡ true
   pub goal : sequent.goal ≡ t
 
+-- what a function instance of a theorem says, under universals of the condition
+pub record IsInstance (W : World) (us : List Tm) (n : Name) (pairs : List FunPair) (t : Tm) : Type 0 where
+  pub sequent : Sequent
+  pub told : concludes W (tree.Instance n pairs) ≡ Some sequent
+  pub universals_in : all_in us sequent.universals ≡ true
+  pub goal : sequent.goal ≡ t
+
 -- the formula of a fact
 abbrev pub IsFact : World → List Tm → Fact → Tm → Type 0
 IsFact W us (Axiom k) t = IsSaid W us (source.Axiom k) t
 IsFact W us (Theorem n) t = IsSaid W us (source.Theorem n) t
+IsFact W us (Instance n pairs) t = IsInstance W us n pairs t
 IsFact W us (Assumed u) t = (u ≡ t) × Within us u × Fits W.functions u
 
 -- the hypothesis of a use is the fact's formula under well-formed terms

@@ -13,12 +13,13 @@ use Rattle.reduction.specs.declared.found.Source.TheVariants as source
 use Rattle.reduction.specs.declared.moves.Subgoal.{Subgoal}
 use Rattle.reduction.specs.declared.run.Made.{Made}
 use Rattle.hints.specs.declared.hint.Fact.{Fact}
-use Rattle.hints.specs.declared.hint.Fact.TheVariants.{Axiom, Theorem, Assumed}
+use Rattle.hints.specs.declared.hint.Fact.TheVariants.{Axiom, Theorem, Instance, Assumed}
 use Rattle.hints.specs.declared.hint.Hints.{Hints}
 use Rattle.hints.specs.declared.hint.Scheme.{Scheme}
 use Rattle.hints.specs.declared.hint.Use.{Use}
 use Rattle.hints.specs.Facts.{citing}
 use Rattle.hints.specs.Start.{conjunction, conjunction_from, bind, images, as_variables}
+use Rattle.reduction_proofs.specs.Trees as tree
 use Rattle.reduction_proofs.specs.Trees.{Proof, Hyp, Substitute, Cut, ImpliesOut, Universal, Owed, Induct}
 use Rattle.reduction_proofs.specs.Derived.{first_part, second_part}
 use Rattle.reduction_proofs.specs.WayBack.{proofs}
@@ -27,6 +28,7 @@ use Rattle.reduction_proofs.specs.WayBack.{proofs}
 abbrev pub fact_under : Pairs → Fact → Proof
 fact_under s (Axiom k) = Substitute (alone (citing (source.Axiom k))) s
 fact_under s (Theorem n) = Substitute (alone (citing (source.Theorem n))) s
+fact_under s (Instance n pairs) = Substitute (tree.Instance n pairs) s
 fact_under s (Assumed u) = Universal u s
 
 -- of P, which has the hypotheses of `:use`

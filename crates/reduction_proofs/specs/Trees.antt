@@ -4,6 +4,7 @@ use Rattle.lisp_data.specs.Values.{Name}
 use Rattle.terms.specs.Terms.{Tm}
 use Rattle.terms.specs.Substitution.{Pairs}
 use Rattle.terms.specs.declared.entries.FactName.TheVariants as fact
+use Rattle.terms.specs.declared.entries.FunPair.{FunPair}
 use Rattle.proof_objects.specs.ProofTrees.{ProofTree, By, trees}
 use Rattle.proof_objects.specs.declared.step.InductionCase.{InductionCase}
 use Rattle.proof_objects.specs.declared.step.Step.TheVariants as step
@@ -59,6 +60,10 @@ ImpliesOut P Q = after_both step.ImpliesOut P Q
 
 abbrev pub Universal : Tm → Pairs → Proof
 Universal u s = alone (step.Universal u s)
+
+-- a theorem with functions in the place of function variables
+abbrev pub Instance : Name → List FunPair → Proof
+Instance n pairs = alone (step.Instance (fact.Theorem n) pairs)
 
 -- what the measure of a function owes, from 0 on
 abbrev pub Owed : Name → ℕ → Proof

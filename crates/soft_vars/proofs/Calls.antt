@@ -8,10 +8,10 @@ use Rattle.terms.specs.Variables.{with_name}
 use Rattle.terms.specs.Worlds.{Each, is_in}
 use Rattle.terms.proofs.Args.{args}
 use Rattle.terms.proofs.Names.{same_name, name_self}
-use Rattle.worlds.proofs.Reserved.{is_in-append}
-use Rattle.soft_vars.specs.Instances.{with_calls, with_calls_in, called}
+use Rattle.terms.proofs.Members.{is_in-append}
+use Rattle.terms.specs.Instances.{with_calls, with_calls_in, called}
 use Rattle.soft_vars.specs.Laws.{CallsAreCalled}
-use Rattle.soft_vars.proofs.Keys.{bytes_eq-turned}
+use Rattle.terms.proofs.MapKeys.{bytes_eq-turned}
 
 -- where no argument is left
 pub with_calls-none : (ts : List Tm) (found : List Name) → with_calls_in (tms (drop (length ts) ts)) found ≡ found

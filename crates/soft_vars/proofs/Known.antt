@@ -12,8 +12,8 @@ use Rattle.worlds.specs.Lookups.{find_spec, find_iso}
 use Rattle.worlds.specs.Named.{IsNamed, primitive_in, definition_in, variable_in, theorem_in, specification_in, iso_in}
 use Rattle.worlds.specs.declared.named.Named.{Named}
 use Rattle.worlds.specs.declared.named.Named.TheVariants.{Primitive, Definition, Variable, Theorem, Specification, Iso}
-use Rattle.worlds.proofs.Reserved.{is_in-append, is_in-keys}
-use Rattle.soft_vars.specs.Pairs.{is_known}
+use Rattle.terms.proofs.Members.{is_in-append, is_in-keys}
+use Rattle.terms.specs.Pairs.{is_known}
 
 -- a name is among those of a list where looking it up finds something
 of_definitions : (ds : List Def) (n : Name) → is_in (map (λ d. d.name) ds) n ≡ is_some (find ds n)

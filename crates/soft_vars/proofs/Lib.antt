@@ -6,5 +6,5 @@ pub mod Keys
 pub mod Known
 pub mod Calls
 pub mod Owned
-pub mod Fitting
 pub mod Maps
+pub mod FirstOrder

@@ -5,14 +5,14 @@ use Rattle.terms.specs.Primitives.{lookup}
 use Rattle.terms.specs.Worlds.{World, is_in}
 use Rattle.terms.specs.declared.entries.FunPair.{FunPair}
 use Rattle.terms.proofs.Names.{same_name}
-use Rattle.worlds.specs.Lookups.{find_instance}
-use Rattle.soft_vars.specs.Maps.{NamePairs, or_name, image}
-use Rattle.soft_vars.specs.Refusals.{Outcome, and_then}
-use Rattle.soft_vars.specs.Pairs.{with_pairs, name_pairs}
-use Rattle.soft_vars.specs.Instances.{own_pairs, recorded, with_recorded, by_own_pairs, with_instance, with_instances, map_from}
+use Rattle.terms.specs.Records.{find_instance}
+use Rattle.terms.specs.Maps.{NamePairs, or_name, image}
+use Rattle.terms.specs.Refusals.{Outcome, and_then}
+use Rattle.terms.specs.Pairs.{with_pairs, name_pairs}
+use Rattle.terms.specs.Instances.{own_pairs, recorded, with_recorded, by_own_pairs, with_instance, with_instances, map_from}
 use Rattle.soft_vars.specs.Laws.{GivesInstances, MapsGiveInstances}
-use Rattle.soft_vars.proofs.Keys.{lookup-before, lookup-last, lookup-other}
-use Rattle.soft_vars.proofs.Fitting.{then_ok, ok_inj, pairs_fit}
+use Rattle.terms.proofs.MapKeys.{lookup-before, lookup-last, lookup-other}
+use Rattle.terms.proofs.Fitting.{then_ok, ok_inj, pairs_fit}
 
 -- what one function adds to a map: nothing where it stays, else its instance
 record Adds (W : World) (own : List FunPair) (m : NamePairs) (f : Name) (n : NamePairs) : Type 0 where

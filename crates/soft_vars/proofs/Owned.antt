@@ -6,12 +6,12 @@ use Rattle.terms.specs.Variables.{with_name}
 use Rattle.terms.specs.Worlds.{is_in}
 use Rattle.terms.specs.declared.entries.FunPair.{FunPair}
 use Rattle.terms.proofs.Names.{same_name}
-use Rattle.worlds.proofs.Reserved.{is_in-append}
+use Rattle.terms.proofs.Members.{is_in-append}
 use Rattle.soft_vars.specs.Dependents.{joined, each_once}
 use Rattle.terms.specs.Worlds.{World}
-use Rattle.worlds.specs.Lookups.{find_instance}
-use Rattle.soft_vars.specs.Maps.{NamePairs}
-use Rattle.soft_vars.specs.Instances.{restricted, with_recorded, by_own_pairs}
+use Rattle.terms.specs.Records.{find_instance}
+use Rattle.terms.specs.Maps.{NamePairs}
+use Rattle.terms.specs.Instances.{restricted, with_recorded, by_own_pairs}
 use Rattle.soft_vars.proofs.Calls.{any-is_in}
 
 or-assoc : (a b c : Bool) → ((a || b) || c) ≡ (a || (b || c))

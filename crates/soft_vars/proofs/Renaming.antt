@@ -4,7 +4,7 @@ use Rattle.std.proofs.lemmas.List.{take_all}
 use Rattle.lisp_data.specs.Values.{Name}
 use Rattle.terms.specs.Terms.{Tm, More, tms}
 use Rattle.terms.proofs.Args.{args}
-use Rattle.soft_vars.specs.Maps.{NamePairs, rename, rename_all}
+use Rattle.terms.specs.Maps.{NamePairs, rename, rename_all}
 
 -- the arguments under the map, one by one
 pub tms-map_rename : (m : NamePairs) (ts : List Tm) → tms (map (rename m) ts) ≡ rename_all m (tms ts)

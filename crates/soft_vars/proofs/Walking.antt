@@ -11,7 +11,8 @@ use Rattle.terms.specs.Worlds.{World, Each}
 use Rattle.terms.specs.Sound.{Sound}
 use Rattle.terms.specs.declared.definition.Definition.{Definition}
 use Rattle.terms.proofs.Names.{same_name, name_self}
-use Rattle.soft_vars.specs.Dependents.{joined, function_dependence}
+use Rattle.terms.specs.Dependence.{function_dependence}
+use Rattle.soft_vars.specs.Dependents.{joined}
 use Rattle.soft_vars.specs.view.Walks.{is_but, visits, visits_all, measure_visits, found_by, after, Covers, IsReady, AreReady, ComesTo, Follows, FollowsVisit}
 use Rattle.soft_vars.specs.declared.walk.Task.{Task}
 use Rattle.soft_vars.specs.declared.walk.Task.TheVariants.{Visit, Leave}

@@ -2,7 +2,7 @@
 use Rattle.std.specs.Prelude.{◌≡◌, Result, Ok, Err}
 use Rattle.lisp_data.specs.declared.code.Code.{Code}
 use Rattle.lisp_data.specs.declared.detail.Detail.{Detail}
-use Rattle.soft_vars.specs.Refusals.{Outcome}
+use Rattle.terms.specs.Refusals.{Outcome}
 use Rattle.soft_vars.specs.declared.errors.SoftError.{SoftError}
 use Rattle.soft_vars.specs.declared.errors.SoftError.TheVariants.{Refused, Memory}
 

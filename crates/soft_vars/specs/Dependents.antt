@@ -3,7 +3,7 @@ use Rattle.std.specs.Prelude.{List, [], ◌∷◌, Option, Some, None}
 use Rattle.lisp_data.specs.Values.{Name}
 use Rattle.terms.specs.Terms.{Tm, tms}
 use Rattle.terms.specs.Variables.{with_name}
-use Rattle.terms.specs.Dependence.{term_dependence, terms_dependence, dependence}
+use Rattle.terms.specs.Dependence.{term_dependence, terms_dependence, function_dependence}
 use Rattle.terms.specs.Worlds.{World}
 use Rattle.terms.specs.declared.entries.Specification.{Specification}
 use Rattle.worlds.specs.Lookups.{find_spec}
@@ -16,10 +16,6 @@ joined found (x ∷ xs) = joined (with_name x found) xs
 -- each name once, at its first place
 abbrev pub each_once : List Name → List Name
 each_once xs = joined [] xs
-
--- the function variables on which a function of the world depends; some may come more than once
-abbrev pub function_dependence : World → Name → List Name
-function_dependence W = dependence W.functions.vars W.functions.defs
 
 -- those of the terms, each once, in the order in which they are first met
 abbrev pub variables_in : World → List Tm → List Name

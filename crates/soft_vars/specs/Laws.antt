@@ -5,17 +5,11 @@ use Rattle.terms.specs.Primitives.{lookup}
 use Rattle.terms.specs.Terms.{Tm, Over}
 use Rattle.terms.specs.Worlds.{World, Each, is_in}
 use Rattle.terms.specs.declared.entries.FunPair.{FunPair}
-use Rattle.soft_vars.specs.Maps.{NamePairs, HasDistinctNames, image}
-use Rattle.soft_vars.specs.Pairs.{with_pairs, name_pairs, IsFitting}
-use Rattle.soft_vars.specs.Instances.{called, own_pairs, recorded, map_from}
+use Rattle.terms.specs.Maps.{NamePairs, HasDistinctNames, image}
+use Rattle.terms.specs.Pairs.{with_pairs, name_pairs, AreFitting}
+use Rattle.terms.specs.Instances.{called, own_pairs, recorded, map_from}
 
--- pairs that are accepted fit one by one, the map has them as they are after what it began with, and no name stands twice in it where none
--- did before
-pub record AreFitting (W : World) (begun : NamePairs) (pairs : List FunPair) (m : NamePairs) : Type 0 where
-  pub as_given : m ≡ begun ++ name_pairs pairs
-  pub distinct : HasDistinctNames begun → HasDistinctNames m
-  pub fitting : Each (IsFitting W.functions) pairs
-
+-- pairs that are accepted fit
 abbrev pub PairsFit : Type 0
 PairsFit = (W : World) (begun : NamePairs) (pairs : List FunPair) (m : NamePairs) → with_pairs W begun pairs ≡ Ok m → AreFitting W begun pairs m
 

@@ -4,14 +4,15 @@ ghost use Rattle.std.specs.Prelude.{◌≡◌, [], ◌∷◌, ◌++◌, IfOk, On
 ghost use Rattle.std.specs.Option.{option_map};
 ghost use Rattle.terms.specs.Definitions.{find};
 ghost use Rattle.terms.specs.Terms.{tms};
-ghost use Rattle.soft_vars.specs.Maps as maps;
-ghost use Rattle.soft_vars.specs.Instances as spec;
+ghost use Rattle.terms.specs.Maps as maps;
+ghost use Rattle.terms.specs.Instances as spec;
 ghost use Rattle.soft_vars.specs.Answers.{Says};
+ghost use Rattle.soft_vars.specs.Dependents as dependents;
 
 use crate::errors::SoftError;
 use crate::map::{NameMap, instantiate_term};
 use crate::pairs::with_pairs;
-use crate::walk::{dependence, has};
+use crate::walk::{dependence, has, variables_of};
 use indexmap::IndexSet;
 use lisp_data::{Memory, Symbol, Symbols};
 use std::alloc::Global;
@@ -61,8 +62,19 @@ fn add_pair(
     Ok(())
 }
 
-/// The pairs of the variables on which the function depends.
+/// The pairs of these variables.
 #[tactic(auto, using(crate::proofs::Owned::owned))]
+fn restricted(alloc: Global, pairs: &FunPairs, variables: &Symbols) -> Result<FunPairs, Memory>
+    ensures { IfOk result (λ ps. ps ≡ spec.restricted pairs.now variables.now) }
+{
+    let mut own = FunPairs::new(alloc);
+    for pair in pairs.as_slice() {
+        add_pair(alloc, variables, pair, &mut own)?;
+    }
+    Ok(own)
+}
+
+/// The pairs of the variables on which the function depends.
 fn own_pairs(
     alloc: Global,
     world: &World,
@@ -72,11 +84,20 @@ fn own_pairs(
     ensures { IfOk result (λ ps. ps ≡ spec.own_pairs world.now pairs.now name.now) }
 {
     let variables = dependence(alloc, world, name)?;
-    let mut own = FunPairs::new(alloc);
-    for pair in pairs.as_slice() {
-        add_pair(alloc, &variables, pair, &mut own)?;
-    }
-    Ok(own)
+    restricted(alloc, pairs, &variables)
+}
+
+/// The pairs of the variables on which a function or a specification depends.
+pub fn dependent_pairs(
+    alloc: Global,
+    world: &World,
+    pairs: &FunPairs,
+    name: &Symbol,
+) -> Result<FunPairs, Memory>
+    ensures { IfOk result (λ ps. ps ≡ spec.restricted pairs.now (dependents.variables_of world.now name.now)) }
+{
+    let variables = variables_of(alloc, world, name)?;
+    restricted(alloc, pairs, &variables)
 }
 
 /// The map with what it needs for a function that it doesn't have.

@@ -10,7 +10,7 @@ mod pairs;
 mod walk;
 
 pub use errors::SoftError;
-pub use instances::{instance_map, instantiate_function};
+pub use instances::{dependent_pairs, instance_map, instantiate_function};
 pub use laws::{calls_are_called, maps_give_instances, pairs_fit};
 pub use map::{NameMap, instantiate_term};
 pub use walk::{variables_in, variables_of};

@@ -4,7 +4,7 @@ ghost use Rattle.std.specs.Prelude.{◌≡◌, [], ◌∷◌, ◌++◌, None, le
 ghost use Rattle.std.specs.Option.{option_copied};
 ghost use Rattle.terms.specs.Primitives.{lookup};
 ghost use Rattle.terms.specs.Terms.{tms};
-ghost use Rattle.soft_vars.specs.Maps.{image, rename, rename_all};
+ghost use Rattle.terms.specs.Maps.{image, rename, rename_all};
 
 use lisp_data::{Memory, Seq, Symbol};
 use std::alloc::Global;
@@ -18,7 +18,7 @@ pub struct NameMap {
 }
 
 impl Model for NameMap {
-    ghost use Rattle.soft_vars.specs.Maps.{NamePairs, name_pairs_code, HasDistinctNames};
+    ghost use Rattle.terms.specs.Maps.{NamePairs, name_pairs_code, HasDistinctNames};
 
     ghost Value = { NamePairs };
 

@@ -1,7 +1,7 @@
 //! Which functions can stand for which function variables.
 
 ghost use Rattle.std.specs.Prelude.{◌≡◌};
-ghost use Rattle.soft_vars.specs.Pairs as spec;
+ghost use Rattle.terms.specs.Pairs as spec;
 ghost use Rattle.soft_vars.specs.Answers.{Says};
 
 use crate::errors::SoftError;

@@ -6,6 +6,7 @@ ghost use Rattle.std.specs.Option.{option_copied};
 ghost use Rattle.terms.specs.Primitives.{lookup};
 ghost use Rattle.terms.specs.Terms.{tms};
 ghost use Rattle.terms.specs.Variables.{with_name};
+ghost use Rattle.terms.specs.Dependence.{function_dependence};
 ghost use Rattle.soft_vars.specs.Dependents as spec;
 ghost use Rattle.soft_vars.specs.view.Walks.{is_but, visits, visits_all, measure_visits, after, AreReady, Follows, FollowsVisit};
 ghost use Rattle.soft_vars.specs.declared.walk.Task.TheVariants.{Visit, Leave};
@@ -170,9 +171,9 @@ impl Walk {
 
     /// What is found once nothing is left to do.
     fn run(self, world: &World) -> Result<Symbols, Memory>
-        requires ready { AreReady (spec.function_dependence world.now) self.left.items self.found }
+        requires ready { AreReady (function_dependence world.now) self.left.items self.found }
         requires done { self.done.keys ≡ [] }
-        ensures { IfOk result (λ found. found ≡ after (spec.function_dependence world.now) self.left.items self.found) }
+        ensures { IfOk result (λ found. found ≡ after (function_dependence world.now) self.left.items self.found) }
     {
         let mut walk = self;
         for _step in 0..u64::MAX {
@@ -187,7 +188,7 @@ impl Walk {
 
 /// The function variables on which a function depends, each once.
 pub(crate) fn dependence(alloc: Global, world: &World, name: &Symbol) -> Result<Symbols, Memory>
-    ensures { IfOk result (λ xs. xs ≡ spec.each_once (spec.function_dependence world.now name.now)) }
+    ensures { IfOk result (λ xs. xs ≡ spec.each_once (function_dependence world.now name.now)) }
 {
     let mut walk = Walk::new(alloc);
     walk.left.push(Task::Visit(name.share()?))?;
@@ -199,6 +200,9 @@ pub(crate) fn dependence(alloc: Global, world: &World, name: &Symbol) -> Result<
 pub fn variables_in(alloc: Global, world: &World, terms: &Terms) -> Result<Symbols, Memory>
     ensures { IfOk result (λ xs. xs ≡ spec.variables_in world.now terms.now) }
 {
+    if world.is_first_order() {
+        return Ok(Symbols::new(alloc));
+    }
     let mut walk = Walk::new(alloc);
     add_all_visits(None, terms.as_slice(), &mut walk.left)?;
     walk.run(world)
@@ -210,6 +214,9 @@ pub fn variables_in(alloc: Global, world: &World, terms: &Terms) -> Result<Symbo
 pub fn variables_of(alloc: Global, world: &World, name: &Symbol) -> Result<Symbols, Memory>
     ensures { IfOk result (λ xs. xs ≡ spec.variables_of world.now name.now) }
 {
+    if world.is_first_order() {
+        return Ok(Symbols::new(alloc));
+    }
     let Some(specification) = world.find_spec(name) else {
         return dependence(alloc, world, name);
     };

@@ -19,7 +19,9 @@ use Rattle.terms.proofs.Extend.{over_map, eval_with, arity_later}
 use Rattle.terms.proofs.Meaning.{arity_primitive, arity_defined}
 use Rattle.terms.proofs.Basics.{is_less}
 use Rattle.terms.proofs.Lists.{join_to}
-use Rattle.terms.proofs.LaterSteps.{later_definition, later_theorem}
+use Rattle.terms.proofs.LaterSteps.{later_self, later_definition, later_theorem}
+use Rattle.terms.proofs.NamesStay.{NamesApart, names_apart}
+use Rattle.terms.proofs.RecordsStay.{records_stay}
 use Rattle.terms.proofs.Totality.{EachTm, by_terms, each_join, each_to, lacks_fits, lacks_all_fits, over_substitute, over_by_args, stays_total}
 
 -- the obligations of a definition that can be added fit the world
@@ -184,8 +186,8 @@ pub with_definition : (W : World) → Sound W → HasBasics W.functions → (d :
 with_definition W sound basics d ok new owed =
     let F = W.functions in
     record {
-      distinct = (new, sound.distinct);
-      unlike_primitives = λ f i. by_test f (bytes_eq d.name f) refl i;
+      distinct = apart.distinct;
+      unlike_primitives = apart.unlike_primitives;
       formed = (ok, sound.formed);
       total = stays_total F sound.formed sound.total d ok (λ _. basics) owed;
       later = later_definition initial_world W sound.later d;
@@ -196,11 +198,15 @@ with_definition W sound basics d ok new owed =
       theorems = each_to _ (λ e. (e.1.hyps ≡ []) × FitsSequent (with_def F d) e.1 × Holds (with_def F d) e.1) (λ e h. (h.0, sequent_later F sound.formed d ok.fresh e.1 h.1, holds_later F sound.formed d ok.fresh e.1 h.1 h.2)) W.theorems sound.theorems;
       specifications = each_to (λ s. FitsOver F s.variables s.matrix) (λ s. FitsOver (with_def F d) s.variables s.matrix) (λ s h. over_map (IsIn s.variables) (IsIn s.variables) _ _ (λ x p. p) (arity_later F d ok.fresh) s.matrix h) W.specifications sound.specifications;
       isos = each_to (λ i. AllHold F (iso_conditions i)) (λ i. AllHold (with_def F d) (iso_conditions i)) (λ i h. all_later F sound.formed d ok.fresh (iso_conditions i) h) W.isos sound.isos;
+      instances = records_stay W (add_definition d W) (names_apart W sound) sound.formed apart (later_definition W W (later_self W) d) sound.instances;
     }
   where
     by_test : (f : Name) (b : Bool) → bytes_eq d.name f ≡ b → cond b (Unit {0}) (IsIn (names W) f) → primitive f ≡ None
     by_test f true t i = subst (λ g. primitive g ≡ None) (same_name d.name f t) (free_primitive W.functions d.name ok.fresh)
     by_test f false t i = sound.unlike_primitives f i
+
+    apart : NamesApart (add_definition d W)
+    apart = record { distinct = (new, sound.distinct); unlike_primitives = λ f i. by_test f (bytes_eq d.name f) refl i }
 
 -- one name more, somewhere in the list
 pub record Inserted (n : Name) (zs ws : List Name) : Type 0 where
@@ -238,17 +244,25 @@ pub inserted_after : (n : Name) (xs zs ws : List Name) → Inserted n zs ws → 
 inserted_after n [] zs ws h = h
 inserted_after n (x ∷ xs) zs ws h = inserted_behind n x (xs ++ zs) (xs ++ ws) (inserted_after n xs zs ws h)
 
+-- the names of a world with one name more, no primitive's
+pub apart_with : (W V : World) → Sound W → (n : Name) → Inserted n (names W) (names V) → primitive n ≡ None → (IsIn (names W) n → ⊥) → NamesApart V
+apart_with W V sound n more free new = record {
+  distinct = more.distinct sound.distinct new;
+  unlike_primitives = λ f i. elim (more.among f i) [
+    | inl e ↦ subst (λ g. primitive g ≡ None) (same_name n f e) free
+    | inr j ↦ sound.unlike_primitives f j
+  ];
+}
+
 pub with_theorem : (W : World) → Sound W → (n : Name) (s : Sequent) → primitive n ≡ None → (IsIn (names W) n → ⊥) → s.hyps ≡ [] → FitsSequent W.functions s → Holds W.functions s → Sound (add_theorem n s W)
 with_theorem W sound n s free new none fit h =
     let rest = map (λ t. t.0) W.theorems ++ (map (λ s. s.name) W.specifications ++ map (λ i. i.name) W.isos) in
     let more : Inserted n (names W) (names (add_theorem n s W)) =
     inserted_after n (map (λ d. d.name) W.functions.defs) _ _ (inserted_after n (map (λ v. v.0) W.functions.vars) _ _ (inserted_here n rest)) in
+    let apart = apart_with W (add_theorem n s W) sound n more free new in
     record {
-      distinct = more.distinct sound.distinct new;
-      unlike_primitives = λ f i. elim (more.among f i) [
-        | inl e ↦ subst (λ g. primitive g ≡ None) (same_name n f e) free
-        | inr j ↦ sound.unlike_primitives f j
-      ];
+      distinct = apart.distinct;
+      unlike_primitives = apart.unlike_primitives;
       formed = sound.formed;
       total = sound.total;
       later = later_theorem initial_world W sound.later n s;
@@ -256,4 +270,5 @@ with_theorem W sound n s free new none fit h =
       theorems = ((none, fit, h), sound.theorems);
       specifications = sound.specifications;
       isos = sound.isos;
+      instances = records_stay W (add_theorem n s W) (names_apart W sound) sound.formed apart (later_theorem W W (later_self W) n s) sound.instances;
     }

@@ -180,4 +180,5 @@ initial_sound = record {
   theorems = theorems_hold;
   specifications = tt;
   isos = tt;
+  instances = tt;
 }

@@ -11,7 +11,13 @@ pub mod Same
 pub mod Lists
 pub mod Basics
 pub mod Totality
+pub mod Members
+pub mod Found
+pub mod MapKeys
+pub mod Fitting
 pub mod LaterSteps
+pub mod NamesStay
+pub mod RecordsStay
 pub mod Growth
 pub mod MoreEntries
 pub mod BuiltInTests

@@ -1,5 +1,5 @@
--- A sound world stays sound with a function variable, a specification or an event.
-use Rattle.std.proofs.Common.{inl, inr, ◌≡◌, ℕ, Bool, true, false, cond, List, [], ◌∷◌, ◌++◌, length, map, bytes_eq, Option, Some, None, IfSome, refl, sym, ap, ◌∙◌, subst}
+-- A sound world stays sound with what is neither a definition nor a theorem.
+use Rattle.std.proofs.Common.{◌≡◌, ℕ, Bool, true, false, cond, List, [], ◌∷◌, ◌++◌, length, map, bytes_eq, Option, Some, None, IfSome, refl, sym, ap, ◌∙◌, subst}
 use Rattle.lisp_data.specs.Values.{Name, Val}
 use Rattle.lisp_data.specs.Datum.{Datum}
 use Rattle.terms.specs.Primitives.{Operation, primitive, lookup}
@@ -15,13 +15,18 @@ use Rattle.terms.specs.Evaluation.{resolve, variable, below, apply}
 use Rattle.terms.specs.Worlds.{names, Functions, World, FitsSequent, arity, arity_by, Fits, IsIn, TotalFor, Total, Holds}
 use Rattle.terms.specs.Measures.{obligations}
 use Rattle.terms.specs.Formed.{with_var, FitsOver, functions, AllFormed}
+use Rattle.terms.specs.Later.{IsLater}
+use Rattle.terms.specs.Instances.{IsRecorded}
 use Rattle.terms.specs.Sound.{Sound, initial_world, AllHold, iso_conditions, add_variable, add_specification, add_iso, instance_of, add_instance, add_link, add_event}
 use Rattle.terms.proofs.Names.{same_name, name_self, name_apart}
 use Rattle.terms.proofs.Below.{Any}
 use Rattle.terms.proofs.Extend.{over_map}
 use Rattle.terms.proofs.Totality.{each_to}
-use Rattle.terms.proofs.LaterSteps.{later_variable, later_specification, later_iso, later_instance, later_link, later_event}
-use Rattle.terms.proofs.Growth.{Inserted, inserted_here, inserted_after, free_primitive}
+use Rattle.terms.proofs.LaterSteps.{later_self, later_variable, later_specification, later_iso, later_instance, later_link, later_event}
+use Rattle.terms.proofs.Lists.{each_join}
+use Rattle.terms.proofs.NamesStay.{NamesApart, names_apart}
+use Rattle.terms.proofs.RecordsStay.{record_stays, records_stay}
+use Rattle.terms.proofs.Growth.{Inserted, inserted_here, inserted_after, free_primitive, apart_with}
 
 no_function : (p : Option Operation) (q : Option Definition) (r : Option ℕ) → arity_by p q r ≡ None → (p ≡ None) × (q ≡ None) × (r ≡ None)
 no_function None None r e = (refl, refl, e)
@@ -116,22 +121,16 @@ module _ (F : Functions) (x : Name) (k : ℕ) (fresh : arity F x ≡ None) where
       by_test false t =
           total I (total_before I tot) f j (ap (λ b. arity_by (primitive f) (find F.defs f) (cond b (Some k) (lookup F.vars f))) (sym t) ∙ a) vs len
 
--- a name more is no primitive's where the others are none
-unlike_later : (n : Name) (zs ws : List Name) → Inserted n zs ws → primitive n ≡ None → ((f : Name) → IsIn zs f → primitive f ≡ None) → (f : Name) → IsIn ws f → primitive f ≡ None
-unlike_later n zs ws more free unlike f i = elim (more.among f i) [
-  | inl e ↦ subst (λ g. primitive g ≡ None) (same_name n f e) free
-  | inr j ↦ unlike f j
-]
-
 pub with_variable : (W : World) → Sound W → (x : Name) (k : ℕ) → arity W.functions x ≡ None → (IsIn (names W) x → ⊥) → Sound (add_variable x k W)
 with_variable W sound x k fresh new =
     let F = W.functions in
     let free = free_primitive F x fresh in
     let a = no_function (primitive x) (find F.defs x) (lookup F.vars x) fresh in
     let more : Inserted x (names W) (names (add_variable x k W)) = inserted_after x (map (λ d. d.name) F.defs) _ _ (inserted_here x _) in
+    let apart = apart_with W (add_variable x k W) sound x more free new in
     record {
-      distinct = more.distinct sound.distinct new;
-      unlike_primitives = unlike_later x (names W) (names (add_variable x k W)) more free sound.unlike_primitives;
+      distinct = apart.distinct;
+      unlike_primitives = apart.unlike_primitives;
       formed = formed_with_var F.vars x k a.0 a.2 F.defs a.1 sound.formed;
       total = total_later F x k fresh sound.total;
       later = later_variable initial_world W sound.later x k;
@@ -139,6 +138,7 @@ with_variable W sound x k fresh new =
       theorems = each_to _ (λ e. (e.1.hyps ≡ []) × FitsSequent (with_var F x k) e.1 × Holds (with_var F x k) e.1) (λ e h. (h.0, sequent_later F x k fresh e.1 h.1, holds_later F x k fresh e.1 h.2)) W.theorems sound.theorems;
       specifications = each_to (λ s. FitsOver F s.variables s.matrix) (λ s. FitsOver (with_var F x k) s.variables s.matrix) (λ s h. over_map (IsIn s.variables) (IsIn s.variables) _ _ (λ y p. p) (arity_later F x k fresh) s.matrix h) W.specifications sound.specifications;
       isos = each_to (λ i. AllHold F (iso_conditions i)) (λ i. AllHold (with_var F x k) (iso_conditions i)) (λ i h. all_later F x k fresh (iso_conditions i) h) W.isos sound.isos;
+      instances = records_stay W (add_variable x k W) (names_apart W sound) sound.formed apart (later_variable W W (later_self W) x k) sound.instances;
     }
 
 pub with_specification : (W : World) → Sound W → (s : Specification) → primitive s.name ≡ None → (IsIn (names W) s.name → ⊥) → FitsOver W.functions s.variables s.matrix → Sound (add_specification s W)
@@ -146,9 +146,10 @@ with_specification W sound s free new fits =
     let rest = map (λ s. s.name) W.specifications ++ map (λ i. i.name) W.isos in
     let more : Inserted s.name (names W) (names (add_specification s W)) =
     inserted_after s.name (map (λ d. d.name) W.functions.defs) _ _ (inserted_after s.name (map (λ v. v.0) W.functions.vars) _ _ (inserted_after s.name (map (λ t. t.0) W.theorems) _ _ (inserted_here s.name rest))) in
+    let apart = apart_with W (add_specification s W) sound s.name more free new in
     record {
-      distinct = more.distinct sound.distinct new;
-      unlike_primitives = unlike_later s.name (names W) (names (add_specification s W)) more free sound.unlike_primitives;
+      distinct = apart.distinct;
+      unlike_primitives = apart.unlike_primitives;
       formed = sound.formed;
       total = sound.total;
       later = later_specification initial_world W sound.later s;
@@ -156,6 +157,7 @@ with_specification W sound s free new fits =
       theorems = sound.theorems;
       specifications = (fits, sound.specifications);
       isos = sound.isos;
+      instances = records_stay W (add_specification s W) (names_apart W sound) sound.formed apart (later_specification W W (later_self W) s) sound.instances;
     }
 
 pub with_event : (W : World) → Sound W → (e : Datum) → Sound (add_event e W)
@@ -169,15 +171,17 @@ with_event W sound e = record {
   theorems = sound.theorems;
   specifications = sound.specifications;
   isos = sound.isos;
+  instances = records_stay W (add_event e W) (names_apart W sound) sound.formed (record { distinct = sound.distinct; unlike_primitives = sound.unlike_primitives }) (later_event W W (later_self W) e) sound.instances;
 }
 
 pub with_iso : (W : World) → Sound W → (i : Iso) → primitive i.name ≡ None → (IsIn (names W) i.name → ⊥) → AllHold W.functions (iso_conditions i) → Sound (add_iso i W)
 with_iso W sound i free new hold =
     let more : Inserted i.name (names W) (names (add_iso i W)) =
     inserted_after i.name (map (λ d. d.name) W.functions.defs) _ _ (inserted_after i.name (map (λ v. v.0) W.functions.vars) _ _ (inserted_after i.name (map (λ t. t.0) W.theorems) _ _ (inserted_after i.name (map (λ s. s.name) W.specifications) _ _ (inserted_here i.name (map (λ i. i.name) W.isos))))) in
+    let apart = apart_with W (add_iso i W) sound i.name more free new in
     record {
-      distinct = more.distinct sound.distinct new;
-      unlike_primitives = unlike_later i.name (names W) (names (add_iso i W)) more free sound.unlike_primitives;
+      distinct = apart.distinct;
+      unlike_primitives = apart.unlike_primitives;
       formed = sound.formed;
       total = sound.total;
       later = later_iso initial_world W sound.later i;
@@ -185,20 +189,31 @@ with_iso W sound i free new hold =
       theorems = sound.theorems;
       specifications = sound.specifications;
       isos = (hold, sound.isos);
+      instances = records_stay W (add_iso i W) (names_apart W sound) sound.formed apart (later_iso W W (later_self W) i) sound.instances;
     }
 
-pub with_instance : (W : World) → Sound W → (of : Name) (pairs : List FunPair) (instance : Name) → Sound (add_instance of pairs instance W)
-with_instance W sound of pairs instance = record {
-  distinct = sound.distinct;
-  unlike_primitives = sound.unlike_primitives;
-  formed = sound.formed;
-  total = sound.total;
-  later = later_instance initial_world W sound.later (instance_of of pairs instance);
-  obligations = sound.obligations;
-  theorems = sound.theorems;
-  specifications = sound.specifications;
-  isos = sound.isos;
-}
+pub with_instance : (W : World) → Sound W → (of : Name) (pairs : List FunPair) (instance : Name) → IsRecorded W (instance_of of pairs instance) → Sound (add_instance of pairs instance W)
+with_instance W sound of pairs instance recorded =
+    let one = instance_of of pairs instance in
+    let V = add_instance of pairs instance W in
+    record {
+      distinct = sound.distinct;
+      unlike_primitives = sound.unlike_primitives;
+      formed = sound.formed;
+      total = sound.total;
+      later = later_instance initial_world W sound.later one;
+      obligations = sound.obligations;
+      theorems = sound.theorems;
+      specifications = sound.specifications;
+      isos = sound.isos;
+      instances = each_join (IsRecorded V) W.instances (one ∷ []) (records_stay W V (names_apart W sound) sound.formed apart later sound.instances) (record_stays W V (names_apart W sound) sound.formed apart later one recorded, tt);
+    }
+  where
+    apart : NamesApart (add_instance of pairs instance W)
+    apart = record { distinct = sound.distinct; unlike_primitives = sound.unlike_primitives }
+
+    later : IsLater W (add_instance of pairs instance W)
+    later = later_instance W W (later_self W) (instance_of of pairs instance)
 
 pub with_link : (W : World) → Sound W → (n : Name) (l : Link) → Sound (add_link n l W)
 with_link W sound n l = record {
@@ -211,4 +226,5 @@ with_link W sound n l = record {
   theorems = sound.theorems;
   specifications = sound.specifications;
   isos = sound.isos;
+  instances = records_stay W (add_link n l W) (names_apart W sound) sound.formed (record { distinct = sound.distinct; unlike_primitives = sound.unlike_primitives }) (later_link W W (later_self W) n l) sound.instances;
 }

@@ -3,6 +3,7 @@ use Rattle.std.specs.Prelude.{ℕ, cond, List, [], ◌∷◌, ◌++◌, bytes_eq
 use Rattle.lisp_data.specs.Values.{Name}
 use Rattle.terms.specs.Primitives.{lookup}
 use Rattle.terms.specs.Terms.{Tm, Var, Quote, Call, Tms, Done, More}
+use Rattle.terms.specs.Worlds.{World}
 use Rattle.terms.specs.declared.definition.Definition.{Definition}
 
 -- those of a term's calls, in the order of the text, where each name has some
@@ -30,3 +31,7 @@ abbrev pub dependence : List (Name × ℕ) → List Definition → Name → List
 dependence vars [] f = itself f (lookup vars f)
 dependence vars (d ∷ ds) f =
     cond (bytes_eq d.name f) (term_dependence (dependence vars ds) d.body ++ measure_dependence (dependence vars ds) d.measure) (dependence vars ds f)
+
+-- the function variables on which a function of the world depends; some may come more than once
+abbrev pub function_dependence : World → Name → List Name
+function_dependence W = dependence W.functions.vars W.functions.defs

@@ -15,6 +15,11 @@ pub mod BuiltIn
 pub mod InitialTheorems
 pub mod Formed
 pub mod Dependence
+pub mod Records
+pub mod Maps
+pub mod Refusals
+pub mod Pairs
+pub mod Instances
 pub mod Later
 pub mod Sound
 pub mod Laws

@@ -10,6 +10,7 @@ use Rattle.terms.specs.BuiltIn.{initial_definitions}
 use Rattle.terms.specs.InitialTheorems.{initial_theorems}
 use Rattle.terms.specs.Formed.{with_def, with_var, AllFormed, FitsOver}
 use Rattle.terms.specs.Later.{IsLater}
+use Rattle.terms.specs.Instances.{IsRecorded}
 use Rattle.terms.specs.declared.definition.Definition.{Definition}
 use Rattle.terms.specs.declared.sequent.Sequent.{Sequent}
 use Rattle.terms.specs.declared.entries.Specification.{Specification}
@@ -62,6 +63,8 @@ pub record Sound (W : World) : Type 0 where
   pub theorems : Each (λ t. (t.1.hyps ≡ []) × FitsSequent W.functions t.1 × Holds W.functions t.1) W.theorems
   pub specifications : Each (λ s. FitsOver W.functions s.variables s.matrix) W.specifications
   pub isos : Each (λ i. AllHold W.functions (iso_conditions i)) W.isos
+  -- each recorded instance is the one that its pairs give
+  pub instances : Each (IsRecorded W) W.instances
 
 abbrev pub add_definition : Definition → World → World
 add_definition d W = record W { functions = with_def W.functions d }

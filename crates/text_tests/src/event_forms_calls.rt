@@ -1,4 +1,4 @@
-//! Tests of the reading of events: a theorem, a function and a book are read, and what is wrong is refused with its code and detail.
+//! Tests of the reading of events: a theorem, a function, a book, a function variable and a specification are read, and what is wrong is refused with its code and detail.
 
 ghost use Rattle.std.specs.Prelude.{IfOk};
 ghost use Rattle.lisp_data.specs.FormView.{IsProper};
@@ -139,6 +139,34 @@ fn reads_a_function_and_a_book(rt: HostRuntime) -> Result<(), Fail> {
 }
 
 #[test]
+fn reads_a_function_variable_and_a_specification(rt: HostRuntime) -> Result<(), Fail> {
+    let alloc = rt.alloc();
+    let stars = words(alloc, &["*", "*"])?;
+    let form = before(alloc, stars, words(alloc, &["=>", "*"])?)?;
+    let form = before(alloc, word(alloc, "?f")?, form)?;
+    match read_event(alloc, &before(alloc, word(alloc, "defunvar")?, form)?) {
+        Ok(Event::Defunvar(variable)) => {
+            assert_eq!(rt; variable.name.text(), "?F");
+            assert_eq!(rt; variable.arity, 2);
+        }
+        _ => assert!(rt; false),
+    }
+    let quantifier = words(alloc, &["forall", "x", "y"])?;
+    let form = before(alloc, quantifier, word(alloc, "nil")?)?;
+    let form = before(alloc, word(alloc, "nil")?, form)?;
+    let form = before(alloc, word(alloc, "s")?, form)?;
+    match read_event(alloc, &before(alloc, word(alloc, "defun-sk2")?, form)?) {
+        Ok(Event::DefunSk2(specification)) => {
+            assert_eq!(rt; specification.name.text(), "S");
+            assert_eq!(rt; specification.variables.len(), 1);
+            assert!(rt; symbol(specification.matrix).is_some());
+        }
+        _ => assert!(rt; false),
+    }
+    Ok(())
+}
+
+#[test]
 fn refuses_with_a_code_and_a_detail(rt: HostRuntime) -> Result<(), Fail> {
     let alloc = rt.alloc();
     for (texts, code, detail) in [
@@ -153,7 +181,11 @@ fn refuses_with_a_code_and_a_detail(rt: HostRuntime) -> Result<(), Fail> {
             b":HINTS".as_slice(),
         ),
         (["defthm", "n", "x", ":how", "x"], 12, b":HOW".as_slice()),
-        (["defthm", "n", "x", ":assuming", "nil"], 11, b"".as_slice()),
+        (
+            ["defthm", "n", "x", ":assuming", "x"],
+            12,
+            b":ASSUMING".as_slice(),
+        ),
         (["defun", "n", "x", "x", "x"], 12, b"formals".as_slice()),
         (
             ["in-package", "a", "b", "c", "d"],

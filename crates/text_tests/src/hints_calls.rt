@@ -94,7 +94,15 @@ fn refuses_hints(rt: HostRuntime) -> Result<(), Fail> {
         ("((:use 36 ()))", Code::BadForm),
         ("((:use 8 ((x a) (x b))))", Code::BadForm),
         ("((:use 8 ((x (f a)))))", Code::UnknownName),
-        ("((:use (acl2-count-car) ()))", Code::NotAnEvent),
+        ("((:use (acl2-count-car . x) ()))", Code::BadForm),
+        ("((:use (acl2-count-car x) ()))", Code::BadForm),
+        ("((:use (8) ()))", Code::BadForm),
+        ("((:use (car) ()))", Code::UnknownName),
+        ("((:use (acl2-count-car (f . car)) ()))", Code::UnknownName),
+        (
+            "((:use (acl2-count-car (car . cdr)) ()))",
+            Code::NotAFunction,
+        ),
         ("((:expand x))", Code::BadForm),
         ("((:what x))", Code::BadForm),
     ];
@@ -108,6 +116,7 @@ fn refuses_hints(rt: HostRuntime) -> Result<(), Fail> {
         "((:unfold not atom) (:cases x (car x)))",
         "((:rewrite equal-same acl2-count-car))",
         "((:use 8 ((x (cons y z)) (y 3))))",
+        "((:use (acl2-count-car) ((x y))))",
         "((:expand (not (car x)) (len x)))",
         "nil",
     ];

@@ -91,13 +91,18 @@ fn assert_refused(rt: &impl Abort, error: &ProofError, code: Code) {
 }
 
 #[test]
+fn reads_an_instance(rt: HostRuntime) -> Result<(), Fail> {
+    let world = World::initial(rt.alloc())?;
+    match read_proof(rt.alloc(), &world, &instance(rt.alloc())?) {
+        Ok(proof) => assert_eq!(rt; proof.node().step.rule(), Rule::Instance),
+        Err(_) => assert!(rt; false),
+    }
+    Ok(())
+}
+
+#[test]
 fn says_why_a_text_is_no_proof(rt: HostRuntime) -> Result<(), Fail> {
     let world = World::initial(rt.alloc())?;
-    let unsupported = instance(rt.alloc())?;
-    match read_proof(rt.alloc(), &world, &unsupported) {
-        Ok(_) => assert!(rt; false),
-        Err(error) => assert_refused(&rt, &error, Code::NotAnEvent),
-    }
     let short = text_of_one(rt.alloc(), ":replace")?;
     match read_proof(rt.alloc(), &world, &short) {
         Ok(_) => assert!(rt; false),

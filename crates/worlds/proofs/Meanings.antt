@@ -21,7 +21,7 @@ use Rattle.worlds.specs.declared.entry.Entry.TheVariants.{Function, Variable as 
 use Rattle.worlds.specs.declared.named.Named.{Named}
 use Rattle.worlds.specs.declared.named.Named.TheVariants.{Primitive, Definition, Variable, Theorem, Specification, Iso}
 use Rattle.worlds.proofs.Lookups.{or-none, or-false, find-grown, vars-grown, lookup-grown, spec-grown, iso-grown, is_in-grown}
-use Rattle.worlds.proofs.Reserved.{is_in-append, is_in-keys}
+use Rattle.terms.proofs.Members.{is_in-append, is_in-keys}
 
 -- an entry without the name gives nothing for it
 no_definition : (n : Name) (e : Entry) → is_named e n ≡ false → definition_of e n ≡ None

@@ -12,7 +12,8 @@ use Rattle.terms.specs.Worlds.{World, names, is_in, arity, arity_by}
 use Rattle.terms.specs.declared.definition.Definition.{Definition}
 use Rattle.terms.proofs.Names.{same_name}
 use Rattle.worlds.specs.Names.{built_in, macros, binders, initial_theorems, given, reserved, is_free, WordsAreNoFunctions}
-use Rattle.worlds.proofs.Reserved.{is_in-append, is_in-reserved}
+use Rattle.terms.proofs.Members.{is_in-append}
+use Rattle.worlds.proofs.Reserved.{is_in-reserved}
 
 -- a test of a list is one of each name in it
 of_each : (p : Name → Bool) (xs : List Name) (n : Name) → list_all p xs ≡ true → is_in xs n ≡ true → p n ≡ true

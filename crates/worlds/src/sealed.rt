@@ -8,7 +8,7 @@ ghost use Rattle.terms.specs.Worlds.{is_in};
 ghost use Rattle.terms.specs.Sound.{initial_world};
 ghost use Rattle.worlds.specs.view.EntryLists.{grown};
 ghost use Rattle.worlds.specs.Events.{has_event, find_defthm};
-ghost use Rattle.worlds.specs.Lookups.{find_instance};
+ghost use Rattle.terms.specs.Records.{find_instance};
 ghost use Rattle.worlds.specs.Named.{Tells};
 ghost use Rattle.worlds.specs.Names.{reserved};
 ghost use Rattle.worlds.specs.Connectives.{name_of};

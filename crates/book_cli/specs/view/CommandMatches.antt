@@ -5,7 +5,7 @@ use Rattle.clap.specs.Words.{App, Row, Rule, first_of, one_of, new_app, new_rule
 use Rattle.clap.specs.Simple.{on_top}
 use Rattle.clap.specs.Values.{bool_text}
 use Rattle.clap.specs.declared.builder.ArgAction.TheVariants.{SetTrue}
-use Rattle.book_cli.specs.declared.words.ModeLine.{ModeLine}
+use Rattle.book_cli.specs.declared.words.Flags.{Flags}
 
 -- the positionals and the flags
 abbrev pub mode_arg : Rule
@@ -34,10 +34,10 @@ is_check (Some mode) None = bytes_eq mode (codes "check")
 is_check _ _ = false
 
 -- the matches say which flags were given
-pub record HasFlags (rows : List Row) (flags : ModeLine) : Type 0 where
+pub record HasFlags (rows : List Row) (flags : Flags) : Type 0 where
   pub continues : one_of (codes "continue") rows ≡ Some (bool_text flags.continues)
   pub shows : one_of (codes "show") rows ≡ Some (bool_text flags.shows)
 
 -- the mode line that the matches give, where its flags are known
-abbrev pub line_in : List Row → ModeLine → Option ModeLine
+abbrev pub line_in : List Row → Flags → Option Flags
 line_in rows flags = if is_check (first_of (codes "MODE") rows) (first_of (codes "COUNT") rows) then Some flags else None

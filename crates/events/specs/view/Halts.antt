@@ -26,6 +26,8 @@ use Rattle.event_forms.specs.declared.errors.EventError.{EventError}
 use Rattle.event_forms.specs.declared.errors.EventError.TheVariants as event
 use Rattle.proof_texts.specs.declared.errors.ProofError.{ProofError}
 use Rattle.proof_texts.specs.declared.errors.ProofError.TheVariants as proof
+use Rattle.soft_vars.specs.declared.errors.SoftError.{SoftError}
+use Rattle.soft_vars.specs.declared.errors.SoftError.TheVariants as soft
 use Rattle.reduction_proofs.specs.Proving.{FitsHints}
 use Rattle.plans.specs.declared.plan.Condition.{Condition}
 use Rattle.plans.specs.declared.plan.Plan.{Plan}
@@ -39,6 +41,7 @@ use Rattle.events.specs.declared.clauses.Clauses.TheVariants.{NoClauses, Goal, E
 use Rattle.events.specs.declared.clauses.Way.{Way}
 use Rattle.events.specs.declared.clauses.Way.TheVariants.{ByProof, ByHints}
 use Rattle.events.specs.declared.handle.Made.{Made}
+use Rattle.events.specs.declared.redundancy.Statement.{Statement}
 use Rattle.events.specs.declared.redundancy.Repeats.{Repeats}
 use Rattle.events.specs.declared.redundancy.Repeats.TheVariants.{Never, AsForm, AsTheorem}
 use Rattle.events.specs.declared.steps.StepAnswer.{StepAnswer}
@@ -50,6 +53,7 @@ use Rattle.events.specs.Verdicts as verdict
 use Rattle.events.specs.Defthm.{goal_clauses}
 use Rattle.events.specs.Verdicts.{is_condition, is_served, by_way, all_proved, checked, verdict_of}
 use Rattle.events.specs.Lines.{event_text, value_line}
+use Rattle.events.specs.Shown.{frame_lines}
 use Rattle.events.specs.declared.handle.EventProofs.{EventProofs}
 
 -- the refusal has this code and this detail, or it is want of memory
@@ -106,6 +110,10 @@ abbrev pub IsFromTerm : TermError → Halt → Type 0
 IsFromTerm (term.Refused code detail) e = e ≡ Refused (Coded code detail)
 IsFromTerm term.Memory e = e ≡ Memory
 
+abbrev pub IsFromSoft : SoftError → Halt → Type 0
+IsFromSoft (soft.Refused code detail) e = e ≡ Refused (Coded code detail)
+IsFromSoft soft.Memory e = e ≡ Memory
+
 abbrev pub IsFromEvaluation : EvalError → Halt → Type 0
 IsFromEvaluation (eval.HasFunctionVariables f) e = e ≡ Refused (Coded code.HasFunctionVariables (detail.Name f))
 IsFromEvaluation eval.TooManyCalls e = e ≡ Refused (Coded code.EvalTooManyCalls detail.Absent)
@@ -149,16 +157,23 @@ FitWays W [] ws = Unit {0}
 FitWays W (c ∷ cs) [] = Unit {0}
 FitWays W (c ∷ cs) (w ∷ ws) = FitsWay W c.sequent.universals w × FitWays W cs ws
 
+abbrev pub statement_seen : Statement → frames.Statement
+statement_seen s = record { formula = form_of s.formula.now; assumed = map form_of s.assumed.now }
+
 -- what the code's word on redundancy is seen as
 abbrev pub repeats_seen : Repeats → frames.Repeats
 repeats_seen Never = frames.Never
 repeats_seen AsForm = frames.AsForm
-repeats_seen (AsTheorem name formula) = frames.AsTheorem name.now (form_of formula.now)
+repeats_seen (AsTheorem name statement) = frames.AsTheorem name.now (statement_seen statement)
 
-abbrev pub HasProperFormula : Repeats → Type 0
-HasProperFormula Never = Unit {0}
-HasProperFormula AsForm = Unit {0}
-HasProperFormula (AsTheorem name formula) = IsProper formula.now
+pub record IsProperStatement (s : Statement) : Type 0 where
+  pub formula : IsProper s.formula.now
+  pub assumed : AllProper s.assumed.now
+
+abbrev pub HasProperStatement : Repeats → Type 0
+HasProperStatement Never = Unit {0}
+HasProperStatement AsForm = Unit {0}
+HasProperStatement (AsTheorem name statement) = IsProperStatement statement
 
 -- more, behind what there is
 abbrev pub joined : {A : Type 0} → List A → Outcome (List A) → Outcome (List A)
@@ -166,6 +181,7 @@ joined xs o = map_outcome (λ ys. xs ++ ys) o
 
 -- what an accepted event makes by its plan, in which it isn't kept yet
 pub record IsMade (W : World) (p : Plan) (made : Made) : Type 0 where
+  pub plan : made.plan ≡ p
   pub world : made.world ≡ add_entries p.entries W
   pub proved : AreProofs W p made.proofs.before made.proofs.after
 
@@ -198,12 +214,12 @@ ProvesAfter W cs ws old (Ok new) = AreProvedAfter W cs ws old new
 ProvesAfter W cs ws old (Err (Refused why)) = all_proved W cs ws ≡ Err why
 ProvesAfter W cs ws old (Err Memory) = Unit {0}
 
--- an accepted event makes this world, and has this line and these proofs
-pub record IsTaken (W : World) (form : Datum) (e : Frame) (next : World) (lines : List (List ℕ)) (proofs : EventProofs) : Type 0 where
+-- an accepted event makes this world, and has this line, those that show what it makes, and these proofs
+pub record IsTaken (W : World) (form : Datum) (e : Frame) (show : Bool) (next : World) (lines : List (List ℕ)) (proofs : EventProofs) : Type 0 where
   pub plan : Plan
   pub is_plan : checked W e ≡ Ok plan
   pub verdict_is : verdict_of W form e ≡ verdict.Accepted next
-  pub lines_are : lines ≡ event_text (codes "ok ") e ∷ []
+  pub lines_are : lines ≡ event_text (codes "ok ") e ∷ frame_lines show W e
   pub proved : AreProofs W plan proofs.before proofs.after
 
 -- an event prints this value, and has this line
@@ -212,17 +228,17 @@ pub record IsShown (W : World) (form : Datum) (e : Frame) (lines : List (List �
   pub verdict_is : verdict_of W form e ≡ verdict.Printed value
   pub lines_are : lines ≡ value_line value ∷ []
 
--- the answer to an event is its verdict's, with its line; a refusal has none yet
-abbrev pub Handles : World → Datum → Frame → Result StepAnswer Halt → Type 0
-Handles W form e (Ok (answer.Accepted next lines proofs)) = IsTaken W form e next lines proofs
-Handles W form e (Ok (answer.Redundant lines)) = (verdict_of W form e ≡ verdict.Redundant) × (lines ≡ event_text (codes "redundant ") e ∷ [])
-Handles W form e (Ok (answer.Printed lines)) = IsShown W form e lines
-Handles W form e (Ok (answer.Refused code lines)) = ⊥
-Handles W form e (Err (Refused why)) = verdict_of W form e ≡ verdict.Refused why
-Handles W form e (Err Memory) = Unit {0}
+-- the answer to an event is its verdict's, with its lines; a refusal has none yet
+abbrev pub Handles : World → Datum → Frame → Bool → Result StepAnswer Halt → Type 0
+Handles W form e show (Ok (answer.Accepted next lines proofs)) = IsTaken W form e show next lines proofs
+Handles W form e show (Ok (answer.Redundant lines)) = (verdict_of W form e ≡ verdict.Redundant) × (lines ≡ event_text (codes "redundant ") e ∷ [])
+Handles W form e show (Ok (answer.Printed lines)) = IsShown W form e lines
+Handles W form e show (Ok (answer.Refused code lines)) = ⊥
+Handles W form e show (Err (Refused why)) = verdict_of W form e ≡ verdict.Refused why
+Handles W form e show (Err Memory) = Unit {0}
 
 -- the same of the form of an event; a form of another shape is refused
-abbrev pub Answers : World → Datum → Outcome Event → Result StepAnswer Halt → Type 0
-Answers W form (Ok event) r = Handles W form (frame_of event) r
-Answers W form (Err e) (Ok a) = ⊥
-Answers W form (Err e) (Err h) = IsRefusal {A = Event} (Err e) h
+abbrev pub Answers : World → Datum → Outcome Event → Bool → Result StepAnswer Halt → Type 0
+Answers W form (Ok event) show r = Handles W form (frame_of event) show r
+Answers W form (Err e) show (Ok a) = ⊥
+Answers W form (Err e) show (Err h) = IsRefusal {A = Event} (Err e) h

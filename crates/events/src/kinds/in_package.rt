@@ -27,6 +27,10 @@ impl Kind for InPackage {
         out.extend(b"in-package ACL2")
     }
 
+    fn shows(&self) -> bool {
+        false
+    }
+
     fn names(&self, alloc: Global) -> Result<Symbols, Memory> {
         Ok(Symbols::new(alloc))
     }

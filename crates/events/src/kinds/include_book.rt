@@ -30,6 +30,10 @@ impl Kind for IncludeBook<'_> {
         out.extend(self.book)
     }
 
+    fn shows(&self) -> bool {
+        false
+    }
+
     fn names(&self, alloc: Global) -> Result<Symbols, Memory> {
         Ok(Symbols::new(alloc))
     }

@@ -1,5 +1,6 @@
 //! `value-triple`.
 
+ghost use Rattle.std.specs.Prelude.{Bool};
 ghost use Rattle.lisp_data.specs.FormView.{form_of, IsProper};
 ghost use Rattle.lisp_data.specs.Datum.{Datum};
 ghost use Rattle.lisp_data.specs.ValueView.{val_of};
@@ -41,7 +42,7 @@ fn value(alloc: Global, world: &World, form: &Form) -> Result<Value, Halt>
 /// `(value-triple form)`: prints the value of the form.
 pub(crate) fn print(alloc: Global, world: &World, form: &Form) -> Result<StepAnswer, Halt>
     requires { IsProper form.now }
-    ensures { (whole : Datum) → Handles world.now whole (spec.value_triple (form_of form.now)) result }
+    ensures { (whole : Datum) (show : Bool) → Handles world.now whole (spec.value_triple (form_of form.now)) show result }
 {
     let value = value(alloc, world, form)?;
     let line = value_line(alloc, &value)?;

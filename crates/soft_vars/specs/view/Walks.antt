@@ -5,7 +5,8 @@ use Rattle.lisp_data.specs.Values.{Name}
 use Rattle.indexmap.specs.IndexSet.{contains}
 use Rattle.terms.specs.Terms.{Tm, Var, Quote, Call, Tms, Done, More}
 use Rattle.terms.specs.Worlds.{World, Each}
-use Rattle.soft_vars.specs.Dependents.{joined, function_dependence}
+use Rattle.terms.specs.Dependence.{function_dependence}
+use Rattle.soft_vars.specs.Dependents.{joined}
 use Rattle.soft_vars.specs.declared.walk.Task.{Task}
 use Rattle.soft_vars.specs.declared.walk.Task.TheVariants.{Visit, Leave}
 use Rattle.soft_vars.specs.declared.walk.Walk.{Walk}

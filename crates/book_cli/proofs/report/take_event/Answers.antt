@@ -12,7 +12,7 @@ pub returns-then-goes_on-clause-written : goal.returns-then-goes_on-clause-writt
 returns-then-goes_on-clause-written g c =
     let e : Datum × ℕ = (form_of c.args.located.form, c.args.located.place) in
     subst (Grows (g.K.Sink.held c.args.out.now) (g.K.Sink.held c.handle.new.out))
-    (sym (turn_goes c.args.continues c.args.progress.now c.handle.new.progress e c.in_ok-accepted.accepted c.in_ok-accepted.ensures.next (sym c.goes_on.ensures ∙ c.if-goes_on.true)))
+    (sym (turn_goes c.args.flags c.args.progress.now c.handle.new.progress e c.in_ok-accepted.accepted c.in_ok-accepted.ensures.next (sym c.goes_on.ensures ∙ c.if-goes_on.true)))
     c.in_ok-accepted.ensures.written
 
 pub returns-in_err-write_last-clause-cut : goal.returns-in_err-write_last-clause-cut
@@ -20,12 +20,12 @@ returns-in_err-write_last-clause-cut g c =
     let e : Datum × ℕ = (form_of c.args.located.form, c.args.located.place) in
     on_err c.from_residual-in_err-write_last.result
     (subst (GrowsByFront (g.K.Sink.held c.args.out.now) (g.K.Sink.held c.write_last.new.out))
-    (sym (turn_stops c.args.continues c.args.progress.now c.handle.new.progress e c.in_ok-accepted.accepted c.in_ok-accepted.ensures.next (sym c.goes_on.ensures ∙ c.if-goes_on.false)))
-    (front_second _ (g.K.Sink.held c.handle.new.out) _ (all_lines (event_lines c.args.progress.now e)) (last_line c.handle.new.progress) c.in_ok-accepted.ensures.written c.in_err-write_last.ensures.cut))
+    (sym (turn_stops c.args.flags c.args.progress.now c.handle.new.progress e c.in_ok-accepted.accepted c.in_ok-accepted.ensures.next (sym c.goes_on.ensures ∙ c.if-goes_on.false)))
+    (front_second _ (g.K.Sink.held c.handle.new.out) _ (all_lines (event_lines c.args.flags c.args.progress.now e)) (last_line c.handle.new.progress) c.in_ok-accepted.ensures.written c.in_err-write_last.ensures.cut))
 
 pub returns-clause-written : goal.returns-clause-written
 returns-clause-written g c =
     let e : Datum × ℕ = (form_of c.args.located.form, c.args.located.place) in
     subst (Grows (g.K.Sink.held c.args.out.now) (g.K.Sink.held c.write_last.new.out))
-    (sym (turn_stops c.args.continues c.args.progress.now c.handle.new.progress e c.in_ok-accepted.accepted c.in_ok-accepted.ensures.next (sym c.goes_on.ensures ∙ c.if-goes_on.false)))
-    (Grows-trans _ (g.K.Sink.held c.handle.new.out) _ (all_lines (event_lines c.args.progress.now e)) (last_line c.handle.new.progress) c.in_ok-accepted.ensures.written c.in_ok-write_last.ensures.written)
+    (sym (turn_stops c.args.flags c.args.progress.now c.handle.new.progress e c.in_ok-accepted.accepted c.in_ok-accepted.ensures.next (sym c.goes_on.ensures ∙ c.if-goes_on.false)))
+    (Grows-trans _ (g.K.Sink.held c.handle.new.out) _ (all_lines (event_lines c.args.flags c.args.progress.now e)) (last_line c.handle.new.progress) c.in_ok-accepted.ensures.written c.in_ok-write_last.ensures.written)

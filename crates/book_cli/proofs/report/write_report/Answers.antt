@@ -16,10 +16,10 @@ events-init g c =
       begun = record {
         written = [];
         grown = Grows-nil (g.K.Sink.held c.args.out.now);
-        split = ap (λ p. report_from c.args.continues p c.args.reader.now.0 c.args.reader.now.1) start;
+        split = ap (λ p. report_from c.args.flags p c.args.reader.now.0 c.args.reader.now.1) start;
       };
       accepted = ap (λ p. accepts p c.args.reader.now.0 c.args.reader.now.1) start;
-      final = ap (λ p. world_from c.args.continues p c.args.reader.now.0) start;
+      final = ap (λ p. world_from c.args.flags p c.args.reader.now.0) start;
       later = omega (arith);
       few = omega (arith, c.requires);
       counted = omega (arith);
@@ -30,15 +30,15 @@ returns-in_err-accepted-in-Ok-Some-clause-cut g c =
     let e : Datum × ℕ = (form_of c.in-Ok-Some.located.form, c.in-Ok-Some.located.place) in
     let first : c.events.reader ≡ (e ∷ c.next.new.self.0, c.next.new.self.1) = (rw c.in-Ok-Some.field-0-is at c.in-Ok-Some.ensures).next in
     on_err c.from_residual-in_err-accepted-in-Ok-Some.result
-    (begun_cut _ (g.K.Sink.held c.events.out) _ _ (turn_lines c.args.continues c.events.progress e) (after_turn c.args.continues c.events.progress e c.next.new.self) _ c.events.invariant.begun
-    (report_split c.args.continues c.events.progress e c.events.reader c.next.new.self first) c.in_err-accepted-in-Ok-Some.ensures.cut)
+    (begun_cut _ (g.K.Sink.held c.events.out) _ _ (turn_lines c.args.flags c.events.progress e) (after_turn c.args.flags c.events.progress e c.next.new.self) _ c.events.invariant.begun
+    (report_split c.args.flags c.events.progress e c.events.reader c.next.new.self first) c.in_err-accepted-in-Ok-Some.ensures.cut)
 
 pub returns-then-not-goes_on-clause-written : goal.returns-then-not-goes_on-clause-written
 returns-then-not-goes_on-clause-written g c =
     let e : Datum × ℕ = (form_of c.in-Ok-Some.located.form, c.in-Ok-Some.located.place) in
     let first : c.events.reader ≡ (e ∷ c.next.new.self.0, c.next.new.self.1) = (rw c.in-Ok-Some.field-0-is at c.in-Ok-Some.ensures).next in
-    begun_end _ (g.K.Sink.held c.events.out) _ _ (turn_lines c.args.continues c.events.progress e) _ c.events.invariant.begun
-    (report_stops c.args.continues c.events.progress c.take_event.new.progress e c.in_ok-accepted-in-Ok-Some.accepted c.in_ok-accepted-in-Ok-Some.ensures.next c.events.reader c.next.new.self first
+    begun_end _ (g.K.Sink.held c.events.out) _ _ (turn_lines c.args.flags c.events.progress e) _ c.events.invariant.begun
+    (report_stops c.args.flags c.events.progress c.take_event.new.progress e c.in_ok-accepted-in-Ok-Some.accepted c.in_ok-accepted-in-Ok-Some.ensures.next c.events.reader c.next.new.self first
     (sym c.goes_on.ensures ∙ c.if-not-goes_on.true))
     c.in_ok-accepted-in-Ok-Some.ensures.written
 
@@ -47,7 +47,7 @@ returns-then-not-goes_on-clause-sound g c =
     let e : Datum × ℕ = (form_of c.in-Ok-Some.located.form, c.in-Ok-Some.located.place) in
     let first : c.events.reader ≡ (e ∷ c.next.new.self.0, c.next.new.self.1) = (rw c.in-Ok-Some.field-0-is at c.in-Ok-Some.ensures).next in
     subst (λ (W : World). Sound W)
-    (sym (world_stops c.args.continues c.events.progress c.take_event.new.progress e c.in_ok-accepted-in-Ok-Some.accepted c.in_ok-accepted-in-Ok-Some.ensures.next c.events.reader c.next.new.self first
+    (sym (world_stops c.args.flags c.events.progress c.take_event.new.progress e c.in_ok-accepted-in-Ok-Some.accepted c.in_ok-accepted-in-Ok-Some.ensures.next c.events.reader c.next.new.self first
     (sym c.goes_on.ensures ∙ c.if-not-goes_on.true)) ∙ c.events.invariant.final)
     c.soundness.ensures
 
@@ -59,18 +59,18 @@ events-preserved g c =
     let next = c.in_ok-accepted-in-Ok-Some.ensures.next in
     let e : Datum × ℕ = (form_of c.in-Ok-Some.located.form, c.in-Ok-Some.located.place) in
     let first : c.events.reader ≡ (e ∷ c.next.new.self.0, c.next.new.self.1) = (rw c.in-Ok-Some.field-0-is at c.in-Ok-Some.ensures).next in
-    let goes : (accepted || c.args.continues) ≡ true = sym c.goes_on.ensures ∙ c.if-not-goes_on.false in
+    let goes : (accepted || c.args.flags.continues) ≡ true = sym c.goes_on.ensures ∙ c.if-not-goes_on.false in
     record {
-      begun = begun_more _ (g.K.Sink.held c.events.out) _ _ (turn_lines c.args.continues p e) _ _ c.events.invariant.begun
-          (report_goes c.args.continues p q e accepted next c.events.reader c.next.new.self first goes) c.in_ok-accepted-in-Ok-Some.ensures.written;
+      begun = begun_more _ (g.K.Sink.held c.events.out) _ _ (turn_lines c.args.flags p e) _ _ c.events.invariant.begun
+          (report_goes c.args.flags p q e accepted next c.events.reader c.next.new.self first goes) c.in_ok-accepted-in-Ok-Some.ensures.written;
       accepted = ap (λ b. b && (accepts q c.next.new.self.0 c.next.new.self.1)) c.still_all-all.ensures
           ∙ both_go c.events.all accepted (accepts p c.events.reader.0 c.events.reader.1) (accepts q c.next.new.self.0 c.next.new.self.1)
-          (accepts_goes c.args.continues p q e accepted next c.events.reader c.next.new.self first) (accepts_not c.args.continues p q e accepted next c.events.reader c.next.new.self first)
+          (accepts_goes c.args.flags p q e accepted next c.events.reader c.next.new.self first) (accepts_not c.args.flags p q e accepted next c.events.reader c.next.new.self first)
           ∙ c.events.invariant.accepted;
-      final = world_goes c.args.continues p q e accepted next c.events.reader c.next.new.self first goes ∙ c.events.invariant.final;
+      final = world_goes c.args.flags p q e accepted next c.events.reader c.next.new.self first goes ∙ c.events.invariant.final;
       later = omega (arith, c.events.invariant.later, c.in_ok-accepted-in-Ok-Some.ensures.later);
-      few = omega (arith, c.events.invariant.few, fewer c.args.continues p q e accepted next c.events.reader c.next.new.self first, handled_more c.args.continues p q e accepted next);
-      counted = counted_within c.args.continues p q e accepted next c.events.invariant.counted;
+      few = omega (arith, c.events.invariant.few, fewer c.args.flags p q e accepted next c.events.reader c.next.new.self first, handled_more c.args.flags p q e accepted next);
+      counted = counted_within c.args.flags p q e accepted next c.events.invariant.counted;
     }
 
 pub returns-in_err-write_last-in-Ok-None-clause-cut : goal.returns-in_err-write_last-in-Ok-None-clause-cut
@@ -78,7 +78,7 @@ returns-in_err-write_last-in-Ok-None-clause-cut g c =
     let last : (c.events.reader ≡ ([], None)) × (c.next.new.self ≡ c.events.reader) = (rw c.in-Ok-None.field-0-is at c.in-Ok-None.ensures).next in
     on_err c.from_residual-in_err-write_last-in-Ok-None.result
     (begun_last_cut _ (g.K.Sink.held c.events.out) _ _ (last_line c.events.progress) _ c.events.invariant.begun
-    (report_ends c.args.continues c.events.progress c.events.reader None last.0) c.in_err-write_last-in-Ok-None.ensures.cut)
+    (report_ends c.args.flags c.events.progress c.events.reader None last.0) c.in_err-write_last-in-Ok-None.ensures.cut)
 
 pub returns-in_err-write_fault-in-Refused-clause-cut : goal.returns-in_err-write_fault-in-Refused-clause-cut
 returns-in_err-write_fault-in-Refused-clause-cut g c =
@@ -86,8 +86,8 @@ returns-in_err-write_fault-in-Refused-clause-cut g c =
     let last : (c.events.reader ≡ ([], Some fault)) × (c.next.new.self ≡ c.events.reader) = (rw c.in-Refused.is at c.in-Err.ensures).next in
     on_err c.from_residual-in_err-write_fault-in-Refused.result
     (begun_last_cut _ (g.K.Sink.held c.events.out) _ _ (end_lines c.events.progress (Some fault)) _ c.events.invariant.begun
-    (report_ends c.args.continues c.events.progress c.events.reader (Some fault) last.0) c.in_err-write_fault-in-Refused.ensures.cut)
+    (report_ends c.args.flags c.events.progress c.events.reader (Some fault) last.0) c.in_err-write_fault-in-Refused.ensures.cut)
 
 pub returns-in-Memory-clause-cut : goal.returns-in-Memory-clause-cut
 returns-in-Memory-clause-cut g c =
-    begun_stays _ (g.K.Sink.held c.events.out) (g.K.Sink.held c.events.out) (report_from c.args.continues c.events.progress c.events.reader.0 c.events.reader.1) (report_of c.args.continues c.args.reader.now) c.events.invariant.begun (Grows-nil (g.K.Sink.held c.events.out))
+    begun_stays _ (g.K.Sink.held c.events.out) (g.K.Sink.held c.events.out) (report_from c.args.flags c.events.progress c.events.reader.0 c.events.reader.1) (report_of c.args.flags c.args.reader.now) c.events.invariant.begun (Grows-nil (g.K.Sink.held c.events.out))

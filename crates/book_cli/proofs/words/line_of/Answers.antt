@@ -4,7 +4,7 @@ use Rattle.clap.proofs.WalkLemmas.{first_value-rows, one_text-rows}
 use Rattle.clap.specs.Words.{first_of, found_of, rows_of}
 use Rattle.clap.specs.Values.{bool_text}
 use Rattle.book_cli.specs.view.CommandMatches.{is_check}
-use Rattle.book_cli.specs.declared.words.ModeLine.{ModeLine}
+use Rattle.book_cli.specs.declared.words.Flags.{Flags}
 use Rattle.book_cli.proofs.words.line_of.Goals as goal
 
 -- the flag that the getter reads
@@ -28,6 +28,6 @@ returns c flags has =
     ∙ c.if-not-is_check.false in
     let continues = flag_is flags.continues _ c.get_flag.result (one_text-rows found (codes "continue") ∙ has.continues) c.get_flag.ensures.value c.get_flag.ensures.other in
     let shows = flag_is flags.shows _ c.get_flag-2.result (one_text-rows found (codes "show") ∙ has.shows) c.get_flag-2.ensures.value c.get_flag-2.ensures.other in
-    let same : ◌≡◌ {A = ModeLine} (record { continues = c.get_flag.result; shows = c.get_flag-2.result }) flags =
+    let same : ◌≡◌ {A = Flags} (record { continues = c.get_flag.result; shows = c.get_flag-2.result }) flags =
     ap₂ (λ (x y : Bool). record { continues = x; shows = y }) continues shows in
     ap Some same ∙ sym (ap (λ b. if b then Some flags else None) test)

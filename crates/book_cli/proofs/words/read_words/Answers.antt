@@ -15,11 +15,8 @@ given c =
 pub returns-in-Ok-clause-mode : goal.returns-in-Ok-clause-mode
 returns-in-Ok-clause-mode c = (given c).mode
 
-pub returns-in-Ok-clause-continues : goal.returns-in-Ok-clause-continues
-returns-in-Ok-clause-continues c = (given c).continue_asked
-
-pub returns-in-Ok-clause-shows : goal.returns-in-Ok-clause-shows
-returns-in-Ok-clause-shows c = (given c).show_asked
+pub returns-in-Ok-clause-flags : goal.returns-in-Ok-clause-flags
+returns-in-Ok-clause-flags c = (given c).flags_are
 
 pub returns-in-Ok-clause-refusal : goal.returns-in-Ok-clause-refusal
 returns-in-Ok-clause-refusal c = (given c).refusal

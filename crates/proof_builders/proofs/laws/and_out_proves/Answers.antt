@@ -1,4 +1,4 @@
-use Rattle.proof_builders.proofs.Derived.{and_out_proves}
+use Rattle.proof_builders.proofs.DerivedRules.{and_out_proves}
 use Rattle.proof_builders.proofs.laws.and_out_proves.Goals as goal
 
 pub returns : goal.returns

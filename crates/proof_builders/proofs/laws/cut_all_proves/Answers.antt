@@ -1,4 +1,4 @@
-use Rattle.proof_builders.proofs.Derived.{cut_all_proves}
+use Rattle.proof_builders.proofs.DerivedRules.{cut_all_proves}
 use Rattle.proof_builders.proofs.laws.cut_all_proves.Goals as goal
 
 pub returns : goal.returns

@@ -1,4 +1,4 @@
-use Rattle.proof_builders.proofs.Derived.{ex_falso_proves}
+use Rattle.proof_builders.proofs.DerivedRules.{ex_falso_proves}
 use Rattle.proof_builders.proofs.laws.ex_falso_proves.Goals as goal
 
 pub returns : goal.returns

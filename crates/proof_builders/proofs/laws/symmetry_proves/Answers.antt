@@ -1,4 +1,4 @@
-use Rattle.proof_builders.proofs.Derived.{symmetry_proves}
+use Rattle.proof_builders.proofs.DerivedRules.{symmetry_proves}
 use Rattle.proof_builders.proofs.laws.symmetry_proves.Goals as goal
 
 pub returns : goal.returns

@@ -1,4 +1,4 @@
-use Rattle.proof_builders.proofs.Derived.{transitivity_proves}
+use Rattle.proof_builders.proofs.DerivedRules.{transitivity_proves}
 use Rattle.proof_builders.proofs.laws.transitivity_proves.Goals as goal
 
 pub returns : goal.returns

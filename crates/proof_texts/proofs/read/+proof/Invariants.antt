@@ -12,8 +12,8 @@ invariant-each_case-loop-form l =
 abbrev pub invariant-read_parts-loop-i : goal.invariant-read_parts-loop-i
 invariant-read_parts-loop-i l = parts_left l.world (read_of l.read) l.kinds l.forms l.i ≡ parts_left l.world nothing l.kinds l.forms 0
 
-abbrev pub decreases-read_tree : goal.decreases-read_tree
-decreases-read_tree l = 8 * depth (form_of l.form.now) + 7
+abbrev pub decreases-read_proof : goal.decreases-read_proof
+decreases-read_proof l = 8 * depth (form_of l.form.now) + 7
 
 abbrev pub decreases-read_items : goal.decreases-read_items
 decreases-read_items l = 8 * deepest (map form_of l.items.now) + 6

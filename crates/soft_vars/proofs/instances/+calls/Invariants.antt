@@ -1,6 +1,6 @@
 use Rattle.std.proofs.Common.{◌≡◌, ◌+◌, ◌*◌, drop}
 use Rattle.terms.specs.Terms.{depth, depths, tms}
-use Rattle.soft_vars.specs.Instances.{with_calls_in}
+use Rattle.terms.specs.Instances.{with_calls_in}
 use Rattle.soft_vars.proofs.instances.+calls.Given as goal
 
 abbrev pub decreases-add_calls : goal.decreases-add_calls

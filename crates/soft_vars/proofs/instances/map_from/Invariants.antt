@@ -1,5 +1,5 @@
 use Rattle.std.proofs.Common.{◌≡◌, drop}
-use Rattle.soft_vars.specs.Instances.{with_instances, map_from}
+use Rattle.terms.specs.Instances.{with_instances, map_from}
 use Rattle.soft_vars.proofs.instances.map_from.Given as goal
 
 abbrev pub invariant-loop-name : goal.invariant-loop-name

@@ -1,6 +1,6 @@
 use Rattle.std.proofs.Common.{◌≡◌, ◌+◌, ◌*◌, map, take}
 use Rattle.terms.specs.Terms.{depth, depths, tms}
-use Rattle.soft_vars.specs.Maps.{rename}
+use Rattle.terms.specs.Maps.{rename}
 use Rattle.soft_vars.proofs.map.+rename.Given as goal
 
 abbrev pub decreases-instantiate_term : goal.decreases-instantiate_term

@@ -1,5 +1,5 @@
 use Rattle.std.proofs.Common.{◌≡◌, drop}
-use Rattle.soft_vars.specs.Pairs.{with_pairs}
+use Rattle.terms.specs.Pairs.{with_pairs}
 use Rattle.soft_vars.proofs.pairs.with_pairs.Given as goal
 
 abbrev pub invariant-loop-pair : goal.invariant-loop-pair

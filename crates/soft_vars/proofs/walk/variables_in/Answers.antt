@@ -1,9 +1,13 @@
-use Rattle.std.proofs.Common.{◌∙◌, ap, None}
+use Rattle.std.proofs.Common.{◌∙◌, ap, sym, None}
 use Rattle.std.proofs.lemmas.Result.{IfOk-weaker}
 use Rattle.terms.specs.Terms.{tms}
 use Rattle.soft_vars.specs.Dependents.{variables_in}
+use Rattle.soft_vars.proofs.FirstOrder.{of_terms}
 use Rattle.soft_vars.proofs.Walking.{ready_alone, found_alone}
 use Rattle.soft_vars.proofs.walk.variables_in.Goals as goal
+
+pub returns-then-is_first_order : goal.returns-then-is_first_order
+returns-then-is_first_order c = c.new.ensures ∙ sym (of_terms c.args.world.now c.args.terms.now (sym c.is_first_order.ensures ∙ c.if-is_first_order.true))
 
 pub run-requires-clause-ready : goal.run-requires-clause-ready
 run-requires-clause-ready c =

@@ -1,8 +1,12 @@
-use Rattle.std.proofs.Common.{◌∙◌, ap, None}
+use Rattle.std.proofs.Common.{◌∙◌, ap, sym, None}
 use Rattle.std.proofs.lemmas.Result.{IfOk-weaker}
 use Rattle.soft_vars.specs.Dependents.{each_once, dependence_of}
+use Rattle.soft_vars.proofs.FirstOrder.{of_name}
 use Rattle.soft_vars.proofs.Walking.{ready_one, found_one}
 use Rattle.soft_vars.proofs.walk.variables_of.Goals as goal
+
+pub returns-then-is_first_order : goal.returns-then-is_first_order
+returns-then-is_first_order c = c.new.ensures ∙ sym (of_name c.args.world.now c.args.name.now (sym c.is_first_order.ensures ∙ c.if-is_first_order.true))
 
 pub run-requires-clause-ready : goal.run-requires-clause-ready
 run-requires-clause-ready c =

@@ -12,7 +12,7 @@ invariant_of-result c =
     let p : ProofTree = c.self.inside.proof in
     let s : Sequent = c.self.inside.sequent.value in
     let later : IsLater c.self.inside.world V = subst (λ it. IsLater it.world V) (sym c.self.view_is) c.requires in
-    let after : concludes V p ≡ Some s = c.proofs_stay.ensures c.self.inside.world V c.soundness.ensures later p s c.self.invariant in
+    let after : concludes V p ≡ Some s = c.proofs_stay.ensures c.self.inside.world V c.soundness.ensures c.soundness-2.ensures later p s c.self.invariant in
     let same : c.in_ok-sequent.sequent.value ≡ s = c.in_ok-sequent.ensures.cases in
     subst (λ W. concludes W c.in_ok-proof.proof ≡ Some c.in_ok-sequent.sequent.value) (sym c.in_ok-world.ensures)
     (subst (λ q. concludes V q ≡ Some c.in_ok-sequent.sequent.value) (sym c.in_ok-proof.ensures)

@@ -1,5 +1,5 @@
 use Rattle.std.proofs.Common.{refl}
-use Rattle.soft_vars.specs.Dependents.{function_dependence}
+use Rattle.terms.specs.Dependence.{function_dependence}
 use Rattle.soft_vars.specs.view.Walks.{after}
 use Rattle.soft_vars.proofs.Walking.{taken}
 use Rattle.soft_vars.proofs.walk.Walk.run.Goals as goal

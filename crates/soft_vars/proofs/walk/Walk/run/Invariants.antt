@@ -1,4 +1,4 @@
-use Rattle.soft_vars.specs.Dependents.{function_dependence}
+use Rattle.terms.specs.Dependence.{function_dependence}
 use Rattle.soft_vars.specs.view.Walks.{after, ComesTo}
 use Rattle.soft_vars.proofs.walk.Walk.run.Given as goal
 
