@@ -1,3 +1,4 @@
 pub mod DeclarationLemmas
 pub mod KeyLemmas
 pub mod PairLemmas
+pub mod ConstantLemmas

@@ -8,11 +8,12 @@ use Rattle.terms.specs.Worlds.{is_in}
 use Rattle.term_forms.specs.Translation.{Outcome, and_then}
 use Rattle.proof_texts.specs.Items.{items_of, is_word, symbol_of}
 use Rattle.event_forms.specs.Clauses.{further, named_with}
+use Rattle.event_forms.specs.Constants.{is_constant}
 use Rattle.event_forms.specs.Places.{is_symbol}
 use Rattle.event_forms.specs.Refused.{bad_part, bad_key, unknown_key}
 use Rattle.event_forms.specs.declared.clauses.ClauseKind.TheVariants.{Proof, Hints}
 use Rattle.event_forms.specs.declared.keys.Keyed.{Keyed}
-use Rattle.event_forms.specs.declared.keys.Keyed.TheVariants.{Function, Theorem, Isomorphism, FunctionInstance, TheoremInstance, Book}
+use Rattle.event_forms.specs.declared.keys.Keyed.TheVariants.{Function, Theorem, Isomorphism, Restriction, FunctionInstance, TheoremInstance, Book}
 use Rattle.event_forms.specs.declared.keys.SeenKeys.{SeenKeys}
 
 -- the keys that an event or a declaration takes
@@ -20,6 +21,7 @@ unfoldable pub known_keys : Keyed → List Name
 known_keys Function = codes ":GUARD" ∷ codes ":VERIFY-GUARDS" ∷ codes ":GUARD-HINTS" ∷ codes ":MEASURE" ∷ codes ":HOW" ∷ codes ":PROOF" ∷ []
 known_keys Theorem = codes ":RULE-CLASSES" ∷ codes ":ASSUMING" ∷ codes ":HOW" ∷ codes ":PROOF" ∷ []
 known_keys Isomorphism = codes ":HOW" ∷ codes ":PROOF" ∷ []
+known_keys Restriction = codes ":NEW-NAME" ∷ codes ":THM-NAME" ∷ codes ":UNDEFINED" ∷ codes ":HOW" ∷ codes ":PROOF" ∷ []
 known_keys FunctionInstance = codes ":VERIFY-GUARDS" ∷ []
 known_keys TheoremInstance = codes ":RULE-CLASSES" ∷ []
 known_keys Book = codes ":DIR" ∷ []
@@ -29,13 +31,15 @@ abbrev pub part_word : Keyed → List ℕ
 part_word Function = codes "declare"
 part_word Theorem = codes "arguments"
 part_word Isomorphism = codes "arguments"
+part_word Restriction = codes "arguments"
 part_word FunctionInstance = codes "arguments"
 part_word TheoremInstance = codes "arguments"
 part_word Book = codes "arguments"
 
 -- The conditions that the value of a key names, behind those that were named before; nothing where it has another shape or names one again. The
 -- proofs and hints of a function and of an isomorphism are clauses, each of a condition. A theorem has one condition, which its proof names and
--- so do its hints, a list of steps; what it assumes is a list of names. An instance has no condition. The directory of a book is the system's, and
+-- so do its hints, a list of steps; what it assumes is a list of names. A transformation's new names are names, and the value outside of a
+-- restriction is one. An instance has no condition. The directory of a book is the system's, and
 -- another key may have any value.
 abbrev pub with_goal : List Name → Option (List Datum) → Option (List Name)
 with_goal named None = None
@@ -58,10 +62,21 @@ in_theorem named k v =
     else if bytes_eq k (codes ":ASSUMING") then if_names named (items_of v)
     else Some named
 
+-- the keys whose values are names
+unfoldable pub name_keys : List Name
+name_keys = codes ":NEW-NAME" ∷ codes ":THM-NAME" ∷ []
+
+abbrev pub in_restriction : List Name → Name → Datum → Option (List Name)
+in_restriction named k v =
+    if is_in name_keys k then (if is_symbol v then Some named else None)
+    else if bytes_eq k (codes ":UNDEFINED") then (if is_constant v then Some named else None)
+    else in_clauses named k v
+
 abbrev pub named_by : Keyed → List Name → Name → Datum → Option (List Name)
 named_by Function named k v = in_clauses named k v
 named_by Theorem named k v = in_theorem named k v
 named_by Isomorphism named k v = in_clauses named k v
+named_by Restriction named k v = in_restriction named k v
 named_by FunctionInstance named k v = Some named
 named_by TheoremInstance named k v = Some named
 named_by Book named k v = if is_word (codes ":SYSTEM") v then Some named else None

@@ -13,6 +13,7 @@ use Rattle.event_forms.specs.Clauses.{clauses_in, hints_in, given_items}
 use Rattle.event_forms.specs.Declarations.{body_of, declared_value}
 use Rattle.event_forms.specs.Instances.{InstanceParts, instance_parts}
 use Rattle.event_forms.specs.Isomorphisms.{IsoParts, iso_of}
+use Rattle.event_forms.specs.Transformations.{RestrictParts, restrict_of}
 use Rattle.event_forms.specs.SecondOrder.{VariableParts, SpecificationParts, variable_parts, specification_parts}
 use Rattle.event_forms.specs.declared.keys.Keyed.TheVariants.{Theorem, FunctionInstance, TheoremInstance, Book}
 
@@ -41,6 +42,7 @@ pub data Event : Type 0 where
   Defun : (function : FunctionParts) → Event
   Defthm : (theorem : TheoremParts) → Event
   Defiso : (iso : IsoParts) → Event
+  Restrict : (restriction : RestrictParts) → Event
   Defun2 : (function : FunctionParts) → Event
   Defunvar : (variable : VariableParts) → Event
   DefunSk2 : (specification : SpecificationParts) → Event
@@ -139,6 +141,10 @@ defthm_inst parts = map_outcome DefthmInst (instance_parts TheoremInstance parts
 abbrev pub defiso : List Datum → Outcome Event
 defiso parts = map_outcome Defiso (iso_of parts)
 
+-- `(restrict f r key value ..)`
+abbrev pub restrict : List Datum → Outcome Event
+restrict parts = map_outcome Restrict (restrict_of parts)
+
 -- `(value-triple form)`
 abbrev pub value_triple : List Datum → Outcome Event
 value_triple (form ∷ []) = Ok (ValueTriple form)
@@ -152,6 +158,7 @@ by_parts (Some (word ∷ parts)) =
     if is_word (codes "DEFUN") word then defun parts
     else if is_word (codes "DEFTHM") word then defthm parts
     else if is_word (codes "DEFISO") word then defiso parts
+    else if is_word (codes "RESTRICT") word then restrict parts
     else if is_word (codes "DEFUN2") word then defun2 parts
     else if is_word (codes "DEFUNVAR") word then defunvar parts
     else if is_word (codes "DEFUN-SK2") word then defun_sk2 parts

@@ -28,7 +28,10 @@ pub struct IsoParts<'a> {
 }
 
 /// The name that stands first, and the parts behind it.
-fn next_name<'a>(alloc: Global, parts: &'a [Form]) -> Result<(&'a Symbol, &'a [Form]), EventError>
+pub(crate) fn next_name<'a>(
+    alloc: Global,
+    parts: &'a [Form],
+) -> Result<(&'a Symbol, &'a [Form]), EventError>
     requires { AllProper parts.now }
     ensures name { Says (λ next. (next.0.now, map form_of next.1.now)) (spec.next_name (map form_of parts.now)) result }
     ensures proper { IfOk result (λ next. AllProper next.1.now) }

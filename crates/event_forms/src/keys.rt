@@ -10,6 +10,7 @@ ghost use Rattle.event_forms.specs.Keys as spec;
 ghost use Rattle.event_forms.specs.Refused.{Says};
 
 use crate::clauses::{ClauseKind, add_name, name_conditions};
+use crate::constants::constant;
 use crate::errors::EventError;
 use crate::places::all_symbols;
 use lisp_data::{Form, Memory, Symbol, Symbols};
@@ -97,12 +98,48 @@ fn named_in_theorem(
     }
 }
 
-/// Where keys stand: in the declarations of a function, in a theorem, an isomorphism or an instance, or behind the name of a book.
+/// The keys whose values are names.
+const NAME_KEYS: [&str; 2] = [":NEW-NAME", ":THM-NAME"];
+
+#[tactic(auto, unfolding(crate::specs::Keys::name_keys))]
+fn is_name_key(key: &str) -> bool
+    ensures { result ≡ is_in spec.name_keys key.now }
+{
+    is_among(&NAME_KEYS, key.as_bytes())
+}
+
+fn named_in_restriction(
+    alloc: Global,
+    named: Symbols,
+    key: &str,
+    value: &Form,
+) -> Result<Option<Symbols>, Memory>
+    requires { IsProper value.now }
+    ensures { IfOk result (λ names. names ≡ spec.in_restriction named key.now (form_of value.now)) }
+{
+    if is_name_key(key) {
+        if symbol(value).is_some() {
+            Ok(Some(named))
+        } else {
+            Ok(None)
+        }
+    } else if key == ":UNDEFINED" {
+        match constant(alloc, value)? {
+            Some(_) => Ok(Some(named)),
+            None => Ok(None),
+        }
+    } else {
+        named_in_clauses(named, key, value)
+    }
+}
+
+/// Where keys stand: in the declarations of a function, in a theorem, an isomorphism, a restriction or an instance, or behind the name of a book.
 #[derive(Clone, Copy, Debug, PartialEq, Eq)]
 pub enum Keyed {
     Function,
     Theorem,
     Isomorphism,
+    Restriction,
     FunctionInstance,
     TheoremInstance,
     Book,
@@ -127,6 +164,9 @@ impl Keyed {
             }
             Keyed::Theorem => [":RULE-CLASSES", ":ASSUMING", ":HOW", ":PROOF"].as_slice(),
             Keyed::Isomorphism => [":HOW", ":PROOF"].as_slice(),
+            Keyed::Restriction => {
+                [":NEW-NAME", ":THM-NAME", ":UNDEFINED", ":HOW", ":PROOF"].as_slice()
+            }
             Keyed::FunctionInstance => [":VERIFY-GUARDS"].as_slice(),
             Keyed::TheoremInstance => [":RULE-CLASSES"].as_slice(),
             Keyed::Book => [":DIR"].as_slice(),
@@ -142,6 +182,7 @@ impl Keyed {
             Keyed::Function => "declare",
             Keyed::Theorem
             | Keyed::Isomorphism
+            | Keyed::Restriction
             | Keyed::FunctionInstance
             | Keyed::TheoremInstance
             | Keyed::Book => "arguments",
@@ -162,6 +203,7 @@ impl Keyed {
         match self {
             Keyed::Function | Keyed::Isomorphism => named_in_clauses(named, key, value),
             Keyed::Theorem => named_in_theorem(alloc, named, key, value),
+            Keyed::Restriction => named_in_restriction(alloc, named, key, value),
             Keyed::FunctionInstance | Keyed::TheoremInstance => Ok(Some(named)),
             Keyed::Book => {
                 if is_word(value, ":SYSTEM") {

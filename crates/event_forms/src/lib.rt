@@ -2,6 +2,7 @@
 #![tactic(auto)]
 
 mod clauses;
+mod constants;
 mod declarations;
 mod errors;
 mod instances;
@@ -11,6 +12,7 @@ mod limits;
 mod places;
 mod second_order;
 mod shapes;
+mod transformations;
 
 pub use clauses::{ClauseKind, clause, hint_clause};
 pub use errors::EventError;
@@ -20,3 +22,4 @@ pub use keys::Keyed;
 pub use limits::MAX_FORMALS;
 pub use second_order::{SpecificationParts, VariableParts};
 pub use shapes::{Event, FunctionParts, TheoremParts, read_event};
+pub use transformations::{RestrictParts, undefined};

@@ -18,6 +18,7 @@ use crate::isomorphisms::{IsoParts, iso};
 use crate::keys::{Keyed, SeenKeys, read_keys, value_of};
 use crate::places::{formals, name, string};
 use crate::second_order::{SpecificationParts, VariableParts, specification, variable};
+use crate::transformations::{RestrictParts, restriction};
 use lisp_data::{Form, Symbol};
 use proof_texts::{is_among, is_word, items};
 use std::alloc::Global;
@@ -58,6 +59,7 @@ pub enum Event<'a> {
     Defun(FunctionParts<'a>),
     Defthm(TheoremParts<'a>),
     Defiso(IsoParts<'a>),
+    Restrict(RestrictParts<'a>),
     Defun2(FunctionParts<'a>),
     Defunvar(VariableParts<'a>),
     DefunSk2(SpecificationParts<'a>),
@@ -288,6 +290,16 @@ fn defthm_inst<'a>(alloc: Global, parts: &'a [Form]) -> Result<Event<'a>, EventE
     Ok(Event::DefthmInst(instance))
 }
 
+/// `(restrict f r key value ..)`.
+fn restrict<'a>(alloc: Global, parts: &'a [Form]) -> Result<Event<'a>, EventError>
+    requires { AllProper parts.now }
+    ensures event { Says seen (spec.restrict (map form_of parts.now)) result }
+    ensures proper { IfOk result HasProperParts }
+{
+    let restriction = restriction(alloc, parts)?;
+    Ok(Event::Restrict(restriction))
+}
+
 /// `(value-triple form)`.
 fn value_triple<'a>(alloc: Global, parts: &'a [Form]) -> Result<Event<'a>, EventError>
     requires { AllProper parts.now }
@@ -315,6 +327,8 @@ pub fn read_event(alloc: Global, form: &Form) -> Result<Event<'_>, EventError>
         defthm(alloc, parts)
     } else if is_word(word, "DEFISO") {
         defiso(alloc, parts)
+    } else if is_word(word, "RESTRICT") {
+        restrict(alloc, parts)
     } else if is_word(word, "DEFUN2") {
         defun2(alloc, parts)
     } else if is_word(word, "DEFUNVAR") {

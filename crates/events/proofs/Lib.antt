@@ -7,9 +7,11 @@ pub mod Counted
 pub mod Printed
 pub mod Lawful
 pub mod LawfulIsomorphisms
+pub mod LawfulRestrictions
 pub mod InstanceLemmas
 pub mod LawfulInstances
 pub mod HandleLemmas
+pub mod Direct
 pub mod StepLemmas
 pub mod ClauseLemmas
 pub mod ProvingLemmas

@@ -9,6 +9,7 @@ pub mod IncludeBook
 pub mod Defun
 pub mod Defthm
 pub mod Defiso
+pub mod Restrict
 pub mod Defunvar
 pub mod DefunSk2
 pub mod DefunInst

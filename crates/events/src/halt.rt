@@ -6,6 +6,7 @@ use event_forms::EventError;
 use hints::HintError;
 use lisp_data::{Code, Detail, Symbol};
 use lists::{Memory, Text};
+use plan_checks::PlanError;
 use proof_texts::ProofError;
 use soft_vars::SoftError;
 use std::alloc::Global;
@@ -153,6 +154,19 @@ impl From<SoftError> for Halt {
         match error {
             SoftError::Refused { code, detail } => Halt::Refused(Refusal::Coded { code, detail }),
             SoftError::Memory => Halt::Memory,
+        }
+    }
+}
+
+impl From<PlanError> for Halt {
+    ghost use Rattle.events.specs.view.Halts.{IsFromPlan};
+
+    ghost from_gives = { λ t e. IsFromPlan t e };
+
+    fn from(error: PlanError) -> Halt {
+        match error {
+            PlanError::Refused { code, detail } => Halt::Refused(Refusal::Coded { code, detail }),
+            PlanError::Memory => Halt::Memory,
         }
     }
 }

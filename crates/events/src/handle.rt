@@ -1,39 +1,34 @@
 //! The checks of an event in their order, whatever its kind, and what it makes.
 
-ghost use Rattle.std.specs.Prelude.{◌≡◌, ◌∷◌, ◌&&◌, codes, IfOk, None, Ok};
+ghost use Rattle.std.specs.Prelude.{◌≡◌, [], ◌∷◌, ◌++◌, ◌&&◌, codes, IfOk, None, Ok};
 ghost use Rattle.lisp_data.specs.FormView.{form_of, IsProper};
 ghost use Rattle.terms.specs.Sound.{add_event};
-ghost use Rattle.plans.specs.Plans.{IsDirect};
 ghost use Rattle.events.specs.Laws.{IsSuited};
 ghost use Rattle.events.specs.Lines.{event_text};
 ghost use Rattle.events.specs.Shown.{plan_lines};
-ghost use Rattle.events.specs.Verdicts.{proved, checked};
-ghost use Rattle.events.specs.view.Halts.{Judges, Handles, clauses_seen, AreProper};
+ghost use Rattle.events.specs.Verdicts.{new_names, proved, checked};
+ghost use Rattle.events.specs.view.Halts.{Judges, ProvesPlan, Handles, clauses_seen, AreProper};
 
 use crate::clauses::{Clauses, Ways, check_clauses, read_ways};
 use crate::halt::Halt;
 use crate::kind::Kind;
 use crate::lines::{event_line, one_line};
 use crate::names::check_names;
-use crate::proving::prove_all;
+use crate::proving::{prove_all, with_further};
 use crate::redundancy::is_redundant;
 use crate::shown::push_shown;
 use crate::steps::{Lines, StepAnswer};
-use kernel::Proved;
-use lisp_data::{Form, Memory, Seq, Symbols};
-use plans::{Plan, install};
+use lisp_data::{Form, Memory, Symbols};
+use plans::{Claims, Plan, ProvedList, install};
 use reduction_proofs::{hints_fit, reductions_prove};
 use std::alloc::Global;
 use worlds::World;
-
-/// A list of proved sequents.
-pub type ProvedList = Seq<Proved>;
 
 /// The proofs of an event's conditions, and of what its plan claims.
 pub struct EventProofs {
     /// In the world before the event: one for each condition, in order, and then those of the plan's claims there.
     pub before: ProvedList,
-    /// In the world with the functions that the event makes: of the plan's claims there. No event has a plan with claims as yet.
+    /// In the world with the functions that the event makes: of the plan's claims there.
     pub after: ProvedList,
 }
 
@@ -80,12 +75,26 @@ impl Made {
     }
 }
 
-/// Proves the conditions of a plan, and makes what it plans.
-fn carry_out(alloc: Global, world: &World, plan: Plan, clauses: &Clauses<'_>) -> Result<Made, Halt>
-    requires suited { IsSuited world.now plan }
-    requires direct { IsDirect plan }
+/// The proofs of a plan: of its conditions, with those of what it claims.
+fn with_claims(proved: ProvedList, claims: Claims) -> Result<EventProofs, Memory>
+    ensures before { IfOk result (λ proofs. proofs.before ≡ proved ++ claims.before) }
+    ensures after { IfOk result (λ proofs. proofs.after ≡ claims.after) }
+{
+    let (before, after) = claims.into_parts();
+    let before = with_further(proved, before.as_slice())?;
+    Ok(EventProofs { before, after })
+}
+
+/// Proves the conditions of a plan.
+fn prove_conditions(
+    alloc: Global,
+    world: &World,
+    plan: &Plan,
+    clauses: &Clauses<'_>,
+) -> Result<ProvedList, Halt>
+    requires suited { IsSuited world.now plan.now }
     requires proper { AreProper clauses.now }
-    ensures { Judges world.now (proved world.now (clauses_seen clauses.now) plan) result }
+    ensures { ProvesPlan world.now (clauses_seen clauses.now) plan.now result }
 {
     world.soundness();
     hints_fit();
@@ -93,19 +102,32 @@ fn carry_out(alloc: Global, world: &World, plan: Plan, clauses: &Clauses<'_>) ->
     let conditions = plan.conditions.as_slice();
     check_clauses(alloc, conditions, clauses)?;
     let ways = read_ways(alloc, world, clauses, conditions, Ways::new(alloc))?;
-    let before = prove_all(
+    let proved = prove_all(
         alloc,
         world,
         conditions,
         ways.as_slice(),
         ProvedList::new(alloc),
     )?;
+    Ok(proved)
+}
+
+/// Proves the conditions of an event's plan, has the event prove from them what the plan claims, and makes what it plans.
+fn carry_out<K: Kind>(alloc: Global, world: &World, event: &K, plan: Plan) -> Result<Made, Halt>
+    requires suited { IsSuited world.now plan }
+    requires proper { K.proper event.now }
+    requires names { new_names world.now [] (K.frame event.now).names ≡ Ok tt }
+    requires plan { (K.frame event.now).plan world.now ≡ Ok plan }
+    ensures { Judges world.now (proved world.now (K.frame event.now).clauses plan) result }
+{
+    let proved = prove_conditions(alloc, world, &plan, &event.clauses())?;
+    let claims = event.finish(alloc, world, &plan, proved.as_slice())?;
+    let proofs = with_claims(proved, claims)?;
     let world = install(alloc, world.share()?, plan.entries.as_slice())?;
-    let after = ProvedList::new(alloc);
     Ok(Made {
         plan,
         world,
-        proofs: EventProofs { before, after },
+        proofs,
     })
 }
 
@@ -119,7 +141,7 @@ fn judge<K: Kind>(alloc: Global, world: &World, event: &K) -> Result<Made, Halt>
     let names = event.names(alloc)?;
     check_names(alloc, world, Symbols::new(alloc), names.as_slice())?;
     let plan = event.plan(alloc, world)?;
-    carry_out(alloc, world, plan, &event.clauses())
+    carry_out(alloc, world, event, plan)
 }
 
 /// The lines of an accepted event: its own, and those that show what its plan makes, where they are asked for.

@@ -1,7 +1,7 @@
 //! What the handling of events asks of a kind of event.
 
 ghost use Rattle.std.specs.Prelude.{◌≡◌, ◌++◌, [], Ok, IfOk, OnOk};
-ghost use Rattle.plans.specs.Plans.{IsDirect};
+ghost use Rattle.plans.specs.Proving.{ProvesAll, AreClaimed, sequents};
 ghost use Rattle.events.specs.Frames.{Frame};
 ghost use Rattle.events.specs.Laws.{IsLawful};
 ghost use Rattle.events.specs.Verdicts.{new_names};
@@ -10,9 +10,10 @@ ghost use Rattle.events.specs.view.Halts.{Says, clauses_seen, AreProper, repeats
 use crate::clauses::Clauses;
 use crate::halt::Halt;
 use crate::redundancy::Repeats;
+use kernel::Proved;
 use lisp_data::Symbols;
 use lists::{Memory, Text};
-use plans::Plan;
+use plans::{Claims, Plan};
 use std::alloc::Global;
 use worlds::World;
 
@@ -56,6 +57,19 @@ pub trait Kind {
     fn plan(&self, alloc: Global, world: &World) -> Result<Plan, Halt>
         requires proper { proper self.now }
         requires names { new_names world.now [] (frame self.now).names ≡ Ok tt }
-        ensures plan { Says (λ plan. plan) ((frame self.now).plan world.now) result }
-        ensures direct { IfOk result IsDirect };
+        ensures { Says (λ plan. plan) ((frame self.now).plan world.now) result };
+
+    /// Proves what its plan claims, from proofs of the plan's conditions. It is never refused: only memory may be wanting.
+    fn finish(
+        &self,
+        alloc: Global,
+        world: &World,
+        plan: &Plan,
+        proved: &[Proved],
+    ) -> Result<Claims, Memory>
+        requires proper { proper self.now }
+        requires names { new_names world.now [] (frame self.now).names ≡ Ok tt }
+        requires plan { (frame self.now).plan world.now ≡ Ok plan.now }
+        requires proved { ProvesAll world.now (sequents plan.now.conditions) proved.now }
+        ensures { IfOk result (AreClaimed world.now plan.now) };
 }

@@ -23,8 +23,9 @@ mod shown;
 mod steps;
 mod translated;
 
-pub use handle::{EventProofs, ProvedList};
+pub use handle::EventProofs;
 pub use laws::{accepted_is_sound, printed_is_true, proof_for_each, value_triples_print};
 pub use lines::refused_text;
+pub use plans::ProvedList;
 pub use refusal::Refusal;
 pub use steps::{Lines, StepAnswer, step};

@@ -1,5 +1,6 @@
 //! The conditions of an event, proved one after the other.
 
+ghost use Rattle.std.specs.Prelude.{◌≡◌, ◌++◌, IfOk};
 ghost use Rattle.events.specs.declared.clauses.Way.TheVariants.{ByProof, ByHints};
 ghost use Rattle.terms.specs.Worlds.{FitsSequent};
 ghost use Rattle.reduction_proofs.specs.Proving.{FitsHints};
@@ -8,13 +9,12 @@ ghost use Rattle.events.specs.view.Halts.{IsWrong, IsStuck, IsStopped, FitsWay, 
 
 use crate::clauses::Way;
 use crate::halt::Halt;
-use crate::handle::ProvedList;
 use crate::refusal::Refusal;
 use hint_prover::{ProveError, Reduction, prove};
 use hints::Hints;
 use kernel::{CheckError, Proved, RuleName, check};
-use lisp_data::Code;
-use plans::{Condition, proves};
+use lisp_data::{Code, Memory};
+use plans::{Condition, ProvedList, proves};
 use proof_objects::Proof;
 use std::alloc::Global;
 use worlds::World;
@@ -144,4 +144,14 @@ pub(crate) fn prove_all(
         others = left;
     }
     Ok(before)
+}
+
+/// Puts further proofs behind those that there are.
+pub(crate) fn with_further(mut proofs: ProvedList, further: &[Proved]) -> Result<ProvedList, Memory>
+    ensures { IfOk result (λ all. all ≡ proofs ++ further.now) }
+{
+    for proof in further {
+        proofs.push(proof.share()?)?;
+    }
+    Ok(proofs)
 }

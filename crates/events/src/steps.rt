@@ -17,6 +17,7 @@ use crate::kinds::defun_sk2::DefunSk2;
 use crate::kinds::defunvar::Defunvar;
 use crate::kinds::in_package::InPackage;
 use crate::kinds::include_book::IncludeBook;
+use crate::kinds::restrict::Restrict;
 use crate::kinds::value_triple;
 use crate::lines::refused_lines;
 use crate::orders::Order;
@@ -61,6 +62,9 @@ fn answer(alloc: Global, world: &World, form: &Form, show: bool) -> Result<StepA
         }
         Event::Defthm(theorem) => handle(alloc, world, form, &Defthm { theorem }, show),
         Event::Defiso(iso) => handle(alloc, world, form, &Defiso { iso }, show),
+        Event::Restrict(restriction) => {
+            handle(alloc, world, form, &Restrict { restriction }, show)
+        }
         Event::Defunvar(variable) => handle(alloc, world, form, &Defunvar { variable }, show),
         Event::DefunSk2(specification) => {
             handle(alloc, world, form, &DefunSk2 { specification }, show)

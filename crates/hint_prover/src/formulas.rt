@@ -5,7 +5,7 @@ ghost use Rattle.std.specs.Prelude.{◌≡◌, true, [], ◌∷◌, codes, pos, 
 ghost use Rattle.lisp_data.specs.SymbolText.{is_symbol_text};
 ghost use Rattle.terms.specs.BuiltIn.{quoted, if_else};
 ghost use Rattle.terms.specs.Measures.{call1 as Call1, call2 as Call2};
-ghost use Rattle.kernel.specs.Sequents.{equation as Equation};
+ghost use Rattle.kernel.specs.Sequents.{equation as Equation, implication as Implication};
 
 use lisp_data::{Memory, Seq, Symbol, Value};
 use std::alloc::Global;
@@ -37,6 +37,13 @@ pub fn equation(alloc: Global, a: Term, b: Term) -> Result<Term, Memory>
     ensures { IfOk result (λ t. t ≡ Equation a b) }
 {
     call2(alloc, "EQUAL", a, b)
+}
+
+/// `(implies a b)`.
+pub fn implication(alloc: Global, a: Term, b: Term) -> Result<Term, Memory>
+    ensures { IfOk result (λ t. t ≡ Implication a b) }
+{
+    call2(alloc, "IMPLIES", a, b)
 }
 
 /// `(if a b c)`

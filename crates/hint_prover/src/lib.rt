@@ -13,7 +13,10 @@ mod way_back;
 
 pub use derived::{back, first_part, second_part, turned};
 pub use errors::{ProveError, Reduction};
-pub use formulas::{conditional, equation};
+pub use formulas::{conditional, equation, implication};
 pub use prover::{MAX_STEPS, checked, prove};
 pub use starting::{by_calls, cut_conjunction};
-pub use trees::{by_axiom, cases, cut, hyp, if_false, if_true, refl, replace};
+pub use trees::{
+    by_axiom, by_body, cases, cut, hyp, if_false, if_true, implies_in, implies_out, owed, refl,
+    replace,
+};

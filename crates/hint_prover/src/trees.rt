@@ -56,7 +56,8 @@ pub fn replace(alloc: Global, eq: Proof, on: Proof, path: Path) -> Result<Proof,
     after_both(alloc, Step::Replace(path), eq, on)
 }
 
-pub(crate) fn by_body(alloc: Global, call: &Term) -> Result<Proof, Memory>
+/// That a call is the function's body at its arguments.
+pub fn by_body(alloc: Global, call: &Term) -> Result<Proof, Memory>
     ensures { IfOk result (λ it. it ≡ spec.Unfold call.now) }
 {
     let call = call.share()?;
@@ -132,14 +133,16 @@ pub(crate) fn ring(alloc: Global, a: Term, b: Term) -> Result<Proof, Memory>
     alone(alloc, Step::Ring(a, b))
 }
 
-pub(crate) fn implies_in(alloc: Global, hyp: &Term, p: Proof) -> Result<Proof, Memory>
+/// Of a proof with a hypothesis, that the hypothesis implies the goal.
+pub fn implies_in(alloc: Global, hyp: &Term, p: Proof) -> Result<Proof, Memory>
     ensures { IfOk result (λ it. it ≡ spec.ImpliesIn hyp.now p) }
 {
     let hyp = hyp.share()?;
     after(alloc, Step::ImpliesIn(hyp), p)
 }
 
-pub(crate) fn implies_out(alloc: Global, p: Proof, q: Proof) -> Result<Proof, Memory>
+/// Of `(implies a b)` and a, b.
+pub fn implies_out(alloc: Global, p: Proof, q: Proof) -> Result<Proof, Memory>
     ensures { IfOk result (λ it. it ≡ spec.ImpliesOut p q) }
 {
     after_both(alloc, Step::ImpliesOut, p, q)
@@ -163,7 +166,7 @@ pub(crate) fn instance(alloc: Global, name: &Symbol, pairs: &FunPairs) -> Result
 }
 
 /// What the measure of a function owes.
-pub(crate) fn owed(alloc: Global, name: &Symbol, number: u32) -> Result<Proof, Memory>
+pub fn owed(alloc: Global, name: &Symbol, number: u32) -> Result<Proof, Memory>
     ensures { IfOk result (λ it. it ≡ spec.Owed name.now number) }
 {
     let name = name.share()?;

@@ -3,6 +3,7 @@ use Rattle.std.specs.Prelude.{◌≡◌, true, List, [], ◌∷◌}
 use Rattle.terms.specs.Worlds.{World, FitsSequent, Holds}
 use Rattle.terms.specs.Formed.{IsWellFormed, FitsOver, ObligationsHold}
 use Rattle.terms.specs.Instances.{IsRecorded}
+use Rattle.terms.specs.Links.{IsLinked}
 use Rattle.terms.specs.Sound.{AllHold, iso_conditions, add_definition, add_variable, add_theorem, add_specification, add_iso, instance_of, add_instance, add_link}
 use Rattle.terms.specs.declared.definition.Definition.{Definition}
 use Rattle.terms.specs.declared.sequent.Sequent.{Sequent}
@@ -57,9 +58,21 @@ Admits W (Theorem n s) = (is_free W n ≡ true) × IsNewTheorem W s
 Admits W (Spec s) = (is_free W s.name ≡ true) × FitsOver W.functions s.variables s.matrix
 Admits W (Isomorphism i) = (is_free W i.name ≡ true) × AllHold W.functions (iso_conditions i)
 Admits W (Instance of pairs instance) = IsRecorded W (instance_of of pairs instance)
-Admits W (Chained n l) = Unit {0}
+Admits W (Chained n l) = IsLinked W n l
 
 -- it can take them one after the other
 abbrev pub AdmitsAll : World → List Entry → Type 0
 AdmitsAll W [] = Unit {0}
 AdmitsAll W (e ∷ es) = Admits W e × AdmitsAll (add_entry e W) es
+
+-- the world can take the entry if it is a function, a function variable or a specification; of any other entry nothing is asked
+abbrev pub AdmitsFunction : World → Entry → Type 0
+AdmitsFunction W (Function d) = IsNewDefinition W d
+AdmitsFunction W (Variable x k) = is_free W x ≡ true
+AdmitsFunction W (Spec s) = (is_free W s.name ≡ true) × FitsOver W.functions s.variables s.matrix
+AdmitsFunction W _ = Unit {0}
+
+-- it can take those among the entries one after the other, without the others
+abbrev pub AdmitsFunctions : World → List Entry → Type 0
+AdmitsFunctions W [] = Unit {0}
+AdmitsFunctions W (e ∷ es) = AdmitsFunction W e × AdmitsFunctions (add_function e W) es

@@ -6,6 +6,7 @@ use Rattle.terms.specs.declared.sequent.Sequent.{Sequent}
 use Rattle.kernel.specs.Conclusion.{Conclusion}
 use Rattle.plans.specs.declared.plan.Condition.{Condition}
 use Rattle.plans.specs.declared.plan.Plan.{Plan}
+use Rattle.plans.specs.declared.claims.Claims.{Claims}
 use Rattle.plans.specs.Entries.{add_functions}
 
 abbrev pub is_among : Tm → List Tm → Bool
@@ -34,6 +35,14 @@ sequents cs = map (λ c. c.sequent) cs
 -- what has to be proved in the world before the event: its conditions, and what is claimed there
 abbrev pub owed_before : Plan → List Sequent
 owed_before p = sequents p.conditions ++ p.before
+
+-- no proofs
+abbrev pub no_claims : Claims
+no_claims = record { before = []; after = [] }
+
+-- the proofs are of what a plan claims: in the world before the event, and in the world with its functions
+abbrev pub AreClaimed : World → Plan → Claims → Type 0
+AreClaimed W p c = ProvesAll W p.before c.before × ProvesAll (add_functions p.entries W) p.after c.after
 
 -- The proofs of a plan: the first are of its conditions and of what it claims in the world before the event, the second of what it claims in
 -- the world with its functions.

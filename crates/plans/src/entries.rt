@@ -2,14 +2,15 @@
 
 ghost use Rattle.std.specs.Prelude.{◌≡◌, true, IfOk, IsErrOf, Ok};
 ghost use Rattle.terms.specs.Instances.{IsRecorded};
-ghost use Rattle.terms.specs.Sound.{AllHold, add_iso, add_theorem, instance_of, add_instance, iso_conditions};
+ghost use Rattle.terms.specs.Links.{IsLinked};
+ghost use Rattle.terms.specs.Sound.{AllHold, add_iso, add_link, add_theorem, instance_of, add_instance, iso_conditions};
 ghost use Rattle.worlds.specs.Names.{is_free};
-ghost use Rattle.plans.specs.Entries.{Admits, AdmitsAll, IsNewTheorem, add_entry, add_entries};
+ghost use Rattle.plans.specs.Entries.{Admits, AdmitsAll, AdmitsFunction, AdmitsFunctions, IsNewTheorem, add_entry, add_entries, add_function, add_functions};
 
 use crate::plan::Entry;
 use lisp_data::{Memory, Symbol};
 use std::alloc::Global;
-use terms::{FunPairs, Iso, Sequent};
+use terms::{FunPairs, Iso, Link, Sequent};
 use worlds::{World, WorldError};
 
 /// A larger world, whose new name is free.
@@ -66,6 +67,20 @@ fn with_new_instance(
     world.with_instance(alloc, of, pairs, instance)
 }
 
+fn with_new_link(
+    alloc: Global,
+    world: &World,
+    theorem: &Symbol,
+    link: &Link,
+) -> Result<World, Memory>
+    requires { IsLinked world.now theorem.now link.now }
+    ensures { IfOk result (λ next. next ≡ add_link theorem.now link.now world.now) }
+{
+    let theorem = theorem.share()?;
+    let link = link.copy(alloc)?;
+    world.with_link(alloc, theorem, link)
+}
+
 /// The world with one more entry.
 fn with_entry(alloc: Global, world: &World, entry: &Entry) -> Result<World, Memory>
     requires { Admits world.now entry.now }
@@ -82,11 +97,7 @@ fn with_entry(alloc: Global, world: &World, entry: &Entry) -> Result<World, Memo
         Entry::Instance(of, pairs, instance) => {
             with_new_instance(alloc, world, of, pairs, instance)
         }
-        Entry::Chained(theorem, link) => world.with_link(
-            alloc,
-            theorem.share()?,
-            link.copy(alloc)?,
-        ),
+        Entry::Chained(theorem, link) => with_new_link(alloc, world, theorem, link),
     }
 }
 
@@ -100,6 +111,39 @@ pub fn install(alloc: Global, world: World, entries: &[Entry]) -> Result<World, 
         [first, rest @ ..] => {
             let next = with_entry(alloc, &world, first)?;
             install(alloc, next, rest)
+        }
+    }
+}
+
+/// The world with the entry, if it is a function, a function variable or a specification.
+fn with_function(alloc: Global, world: &World, entry: &Entry) -> Result<World, Memory>
+    requires { AdmitsFunction world.now entry.now }
+    ensures { IfOk result (λ next. next ≡ add_function entry.now world.now) }
+{
+    match entry {
+        Entry::Function(definition) => {
+            grown(world.with_function(alloc, definition.copy(alloc)?))
+        }
+        Entry::Variable(name, arity) => grown(world.with_variable(alloc, name.share()?, *arity)),
+        Entry::Theorem(_, _) => world.share(),
+        Entry::Spec(specification) => grown(world.with_spec(alloc, specification.copy(alloc)?)),
+        Entry::Isomorphism(_) => world.share(),
+        Entry::Instance(_, _, _) => world.share(),
+        Entry::Chained(_, _) => world.share(),
+    }
+}
+
+/// The world with the functions, function variables and specifications among the entries, added one after the other. An event proves there what
+/// it claims of them (docs/ARCHITECTURE.md, "How an event flows").
+pub fn install_functions(alloc: Global, world: &World, entries: &[Entry]) -> Result<World, Memory>
+    requires { AdmitsFunctions world.now entries.now }
+    ensures { IfOk result (λ next. next ≡ add_functions entries.now world.now) }
+{
+    match entries {
+        [] => world.share(),
+        [first, rest @ ..] => {
+            let next = with_function(alloc, world, first)?;
+            install_functions(alloc, &next, rest)
         }
     }
 }

@@ -3,11 +3,13 @@
 
 mod congruence;
 mod derived;
+mod hypotheses;
 mod induction;
 mod laws;
 
 pub use congruence::body_congruence;
 pub use derived::{both, chained, first_of_both, gathered, scattered, second_of_both};
+pub use hypotheses::{at_call, hypothesis, scheme};
 pub use induction::induct_on_calls;
 pub use laws::{
     among_proves, and_in_all_proves, and_in_proves, and_out_proves, body_congruence_proves,

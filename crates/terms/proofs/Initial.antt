@@ -181,4 +181,5 @@ initial_sound = record {
   specifications = tt;
   isos = tt;
   instances = tt;
+  links = tt;
 }

@@ -18,6 +18,7 @@ pub mod Fitting
 pub mod LaterSteps
 pub mod NamesStay
 pub mod RecordsStay
+pub mod LinksStay
 pub mod Growth
 pub mod MoreEntries
 pub mod BuiltInTests

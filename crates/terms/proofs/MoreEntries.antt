@@ -17,6 +17,7 @@ use Rattle.terms.specs.Measures.{obligations}
 use Rattle.terms.specs.Formed.{with_var, FitsOver, functions, AllFormed}
 use Rattle.terms.specs.Later.{IsLater}
 use Rattle.terms.specs.Instances.{IsRecorded}
+use Rattle.terms.specs.Links.{IsLinked}
 use Rattle.terms.specs.Sound.{Sound, initial_world, AllHold, iso_conditions, add_variable, add_specification, add_iso, instance_of, add_instance, add_link, add_event}
 use Rattle.terms.proofs.Names.{same_name, name_self, name_apart}
 use Rattle.terms.proofs.Below.{Any}
@@ -26,6 +27,7 @@ use Rattle.terms.proofs.LaterSteps.{later_self, later_variable, later_specificat
 use Rattle.terms.proofs.Lists.{each_join}
 use Rattle.terms.proofs.NamesStay.{NamesApart, names_apart}
 use Rattle.terms.proofs.RecordsStay.{record_stays, records_stay}
+use Rattle.terms.proofs.LinksStay.{link_stays, links_stay}
 use Rattle.terms.proofs.Growth.{Inserted, inserted_here, inserted_after, free_primitive, apart_with}
 
 no_function : (p : Option Operation) (q : Option Definition) (r : Option ℕ) → arity_by p q r ≡ None → (p ≡ None) × (q ≡ None) × (r ≡ None)
@@ -139,6 +141,7 @@ with_variable W sound x k fresh new =
       specifications = each_to (λ s. FitsOver F s.variables s.matrix) (λ s. FitsOver (with_var F x k) s.variables s.matrix) (λ s h. over_map (IsIn s.variables) (IsIn s.variables) _ _ (λ y p. p) (arity_later F x k fresh) s.matrix h) W.specifications sound.specifications;
       isos = each_to (λ i. AllHold F (iso_conditions i)) (λ i. AllHold (with_var F x k) (iso_conditions i)) (λ i h. all_later F x k fresh (iso_conditions i) h) W.isos sound.isos;
       instances = records_stay W (add_variable x k W) (names_apart W sound) sound.formed apart (later_variable W W (later_self W) x k) sound.instances;
+      links = links_stay W (add_variable x k W) (names_apart W sound) sound.formed apart (later_variable W W (later_self W) x k) sound.links;
     }
 
 pub with_specification : (W : World) → Sound W → (s : Specification) → primitive s.name ≡ None → (IsIn (names W) s.name → ⊥) → FitsOver W.functions s.variables s.matrix → Sound (add_specification s W)
@@ -158,6 +161,7 @@ with_specification W sound s free new fits =
       specifications = (fits, sound.specifications);
       isos = sound.isos;
       instances = records_stay W (add_specification s W) (names_apart W sound) sound.formed apart (later_specification W W (later_self W) s) sound.instances;
+      links = links_stay W (add_specification s W) (names_apart W sound) sound.formed apart (later_specification W W (later_self W) s) sound.links;
     }
 
 pub with_event : (W : World) → Sound W → (e : Datum) → Sound (add_event e W)
@@ -172,6 +176,7 @@ with_event W sound e = record {
   specifications = sound.specifications;
   isos = sound.isos;
   instances = records_stay W (add_event e W) (names_apart W sound) sound.formed (record { distinct = sound.distinct; unlike_primitives = sound.unlike_primitives }) (later_event W W (later_self W) e) sound.instances;
+  links = links_stay W (add_event e W) (names_apart W sound) sound.formed (record { distinct = sound.distinct; unlike_primitives = sound.unlike_primitives }) (later_event W W (later_self W) e) sound.links;
 }
 
 pub with_iso : (W : World) → Sound W → (i : Iso) → primitive i.name ≡ None → (IsIn (names W) i.name → ⊥) → AllHold W.functions (iso_conditions i) → Sound (add_iso i W)
@@ -190,6 +195,7 @@ with_iso W sound i free new hold =
       specifications = sound.specifications;
       isos = (hold, sound.isos);
       instances = records_stay W (add_iso i W) (names_apart W sound) sound.formed apart (later_iso W W (later_self W) i) sound.instances;
+      links = links_stay W (add_iso i W) (names_apart W sound) sound.formed apart (later_iso W W (later_self W) i) sound.links;
     }
 
 pub with_instance : (W : World) → Sound W → (of : Name) (pairs : List FunPair) (instance : Name) → IsRecorded W (instance_of of pairs instance) → Sound (add_instance of pairs instance W)
@@ -207,6 +213,7 @@ with_instance W sound of pairs instance recorded =
       specifications = sound.specifications;
       isos = sound.isos;
       instances = each_join (IsRecorded V) W.instances (one ∷ []) (records_stay W V (names_apart W sound) sound.formed apart later sound.instances) (record_stays W V (names_apart W sound) sound.formed apart later one recorded, tt);
+      links = links_stay W V (names_apart W sound) sound.formed apart later sound.links;
     }
   where
     apart : NamesApart (add_instance of pairs instance W)
@@ -215,8 +222,8 @@ with_instance W sound of pairs instance recorded =
     later : IsLater W (add_instance of pairs instance W)
     later = later_instance W W (later_self W) (instance_of of pairs instance)
 
-pub with_link : (W : World) → Sound W → (n : Name) (l : Link) → Sound (add_link n l W)
-with_link W sound n l = record {
+pub with_link : (W : World) → Sound W → (n : Name) (l : Link) → IsLinked W n l → Sound (add_link n l W)
+with_link W sound n l linked = record {
   distinct = sound.distinct;
   unlike_primitives = sound.unlike_primitives;
   formed = sound.formed;
@@ -227,4 +234,5 @@ with_link W sound n l = record {
   specifications = sound.specifications;
   isos = sound.isos;
   instances = records_stay W (add_link n l W) (names_apart W sound) sound.formed (record { distinct = sound.distinct; unlike_primitives = sound.unlike_primitives }) (later_link W W (later_self W) n l) sound.instances;
+  links = (link_stays W (add_link n l W) (names_apart W sound) sound.formed (record { distinct = sound.distinct; unlike_primitives = sound.unlike_primitives }) (later_link W W (later_self W) n l) n l linked, links_stay W (add_link n l W) (names_apart W sound) sound.formed (record { distinct = sound.distinct; unlike_primitives = sound.unlike_primitives }) (later_link W W (later_self W) n l) sound.links);
 }

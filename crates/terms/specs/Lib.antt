@@ -23,4 +23,5 @@ pub mod Instances
 pub mod Later
 pub mod Sound
 pub mod Laws
+pub mod Links
 pub mod view

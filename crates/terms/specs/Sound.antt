@@ -11,6 +11,7 @@ use Rattle.terms.specs.InitialTheorems.{initial_theorems}
 use Rattle.terms.specs.Formed.{with_def, with_var, AllFormed, FitsOver}
 use Rattle.terms.specs.Later.{IsLater}
 use Rattle.terms.specs.Instances.{IsRecorded}
+use Rattle.terms.specs.Links.{IsLinked}
 use Rattle.terms.specs.declared.definition.Definition.{Definition}
 use Rattle.terms.specs.declared.sequent.Sequent.{Sequent}
 use Rattle.terms.specs.declared.entries.Specification.{Specification}
@@ -65,6 +66,8 @@ pub record Sound (W : World) : Type 0 where
   pub isos : Each (λ i. AllHold W.functions (iso_conditions i)) W.isos
   -- each recorded instance is the one that its pairs give
   pub instances : Each (IsRecorded W) W.instances
+  -- each link's theorem says what the link does
+  pub links : Each (λ l. IsLinked W l.0 l.1) W.links
 
 abbrev pub add_definition : Definition → World → World
 add_definition d W = record W { functions = with_def W.functions d }

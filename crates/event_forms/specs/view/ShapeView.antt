@@ -6,14 +6,16 @@ use Rattle.event_forms.specs.Instances as instance
 use Rattle.event_forms.specs.SecondOrder as order
 use Rattle.event_forms.specs.Shapes as spec
 use Rattle.event_forms.specs.Isomorphisms as iso
+use Rattle.event_forms.specs.Transformations as transformation
 use Rattle.event_forms.specs.declared.instances.InstanceParts.{InstanceParts}
 use Rattle.event_forms.specs.declared.isomorphisms.IsoParts.{IsoParts}
 use Rattle.event_forms.specs.declared.second_order.SpecificationParts.{SpecificationParts}
 use Rattle.event_forms.specs.declared.second_order.VariableParts.{VariableParts}
+use Rattle.event_forms.specs.declared.transformations.RestrictParts.{RestrictParts}
 use Rattle.event_forms.specs.declared.shapes.Event.{Event}
 use Rattle.event_forms.specs.declared.shapes.FunctionParts.{FunctionParts}
 use Rattle.event_forms.specs.declared.shapes.TheoremParts.{TheoremParts}
-use Rattle.event_forms.specs.declared.shapes.Event.TheVariants.{InPackage, IncludeBook, Defun, Defthm, Defiso, Defun2, Defunvar, DefunSk2, DefunInst, DefthmInst, ValueTriple}
+use Rattle.event_forms.specs.declared.shapes.Event.TheVariants.{InPackage, IncludeBook, Defun, Defthm, Defiso, Restrict, Defun2, Defunvar, DefunSk2, DefunInst, DefthmInst, ValueTriple}
 
 -- what f gives of a part that may be left out
 abbrev pub if_given : {A B : Type 0} → Option A → (A → B) → Option B
@@ -49,6 +51,17 @@ iso_seen i = record {
   hows = hints_in (map form_of i.hows.now);
 }
 
+abbrev pub restrict_seen : RestrictParts → transformation.RestrictParts
+restrict_seen r = record {
+  old = r.old.now;
+  restriction = form_of r.restriction.now;
+  undefined = transformation.undefined_by (if_given r.undefined (λ u. form_of u.now));
+  function = r.function.now;
+  theorem = r.theorem.now;
+  proofs = clauses_in (map form_of r.proofs.now);
+  hows = hints_in (map form_of r.hows.now);
+}
+
 abbrev pub variable_seen : VariableParts → order.VariableParts
 variable_seen v = record { name = v.name.now; arity = v.arity }
 
@@ -68,6 +81,7 @@ seen (IncludeBook book) = spec.IncludeBook book.now
 seen (Defun function) = spec.Defun (function_seen function)
 seen (Defthm theorem) = spec.Defthm (theorem_seen theorem)
 seen (Defiso iso) = spec.Defiso (iso_seen iso)
+seen (Restrict restriction) = spec.Restrict (restrict_seen restriction)
 seen (Defun2 function) = spec.Defun2 (function_seen function)
 seen (Defunvar variable) = spec.Defunvar (variable_seen variable)
 seen (DefunSk2 specification) = spec.DefunSk2 (specification_seen specification)
@@ -93,6 +107,12 @@ pub record IsProperIso (i : IsoParts) : Type 0 where
   pub proofs : AllProper i.proofs.now
   pub hows : AllProper i.hows.now
 
+pub record IsProperRestriction (r : RestrictParts) : Type 0 where
+  pub restriction : IsProper r.restriction.now
+  pub undefined : IfSome r.undefined (λ u. IsProper u.now)
+  pub proofs : AllProper r.proofs.now
+  pub hows : AllProper r.hows.now
+
 pub record IsProperSpecification (s : SpecificationParts) : Type 0 where
   pub variables : AllProper s.variables.now
   pub matrix : IsProper s.matrix.now
@@ -106,6 +126,7 @@ HasProperParts (IncludeBook book) = Unit {0}
 HasProperParts (Defun function) = IsProperFunction function
 HasProperParts (Defthm theorem) = IsProperTheorem theorem
 HasProperParts (Defiso iso) = IsProperIso iso
+HasProperParts (Restrict restriction) = IsProperRestriction restriction
 HasProperParts (Defun2 function) = IsProperFunction function
 HasProperParts (Defunvar variable) = Unit {0}
 HasProperParts (DefunSk2 specification) = IsProperSpecification specification

@@ -28,10 +28,12 @@ use Rattle.proof_texts.specs.declared.errors.ProofError.{ProofError}
 use Rattle.proof_texts.specs.declared.errors.ProofError.TheVariants as proof
 use Rattle.soft_vars.specs.declared.errors.SoftError.{SoftError}
 use Rattle.soft_vars.specs.declared.errors.SoftError.TheVariants as soft
+use Rattle.plan_checks.specs.declared.errors.PlanError.{PlanError}
+use Rattle.plan_checks.specs.declared.errors.PlanError.TheVariants as planned
 use Rattle.reduction_proofs.specs.Proving.{FitsHints}
 use Rattle.plans.specs.declared.plan.Condition.{Condition}
 use Rattle.plans.specs.declared.plan.Plan.{Plan}
-use Rattle.plans.specs.Entries.{add_entries}
+use Rattle.plans.specs.Entries.{AdmitsAll, add_entries}
 use Rattle.plans.specs.Proving.{proves, sequents, ProvesAll, AreProofs}
 use Rattle.events.specs.declared.refusal.Refusal.TheVariants.{Coded, ProofWrong, AtNode, NotProved}
 use Rattle.events.specs.declared.halt.Halt.{Halt}
@@ -113,6 +115,10 @@ IsFromTerm term.Memory e = e ≡ Memory
 abbrev pub IsFromSoft : SoftError → Halt → Type 0
 IsFromSoft (soft.Refused code detail) e = e ≡ Refused (Coded code detail)
 IsFromSoft soft.Memory e = e ≡ Memory
+
+abbrev pub IsFromPlan : PlanError → Halt → Type 0
+IsFromPlan (planned.Refused code detail) e = e ≡ Refused (Coded code detail)
+IsFromPlan planned.Memory e = e ≡ Memory
 
 abbrev pub IsFromEvaluation : EvalError → Halt → Type 0
 IsFromEvaluation (eval.HasFunctionVariables f) e = e ≡ Refused (Coded code.HasFunctionVariables (detail.Name f))
@@ -213,6 +219,18 @@ abbrev pub ProvesAfter : World → List Condition → List Way → List Conclusi
 ProvesAfter W cs ws old (Ok new) = AreProvedAfter W cs ws old new
 ProvesAfter W cs ws old (Err (Refused why)) = all_proved W cs ws ≡ Err why
 ProvesAfter W cs ws old (Err Memory) = Unit {0}
+
+-- the conditions of a plan are proved, by these proofs, and the world can take its entries
+pub record AreProvedOf (W : World) (clauses : frames.Clauses) (p : Plan) (proofs : List Conclusion) : Type 0 where
+  pub passed : verdict.proved W clauses p ≡ Ok p
+  pub admitted : AdmitsAll W p.entries
+  pub own : ProvesAll W (sequents p.conditions) proofs
+
+-- the answer to the conditions of a plan: their proofs, or their refusal
+abbrev pub ProvesPlan : World → frames.Clauses → Plan → Result (List Conclusion) Halt → Type 0
+ProvesPlan W clauses p (Ok proofs) = AreProvedOf W clauses p proofs
+ProvesPlan W clauses p (Err (Refused why)) = verdict.proved W clauses p ≡ Err why
+ProvesPlan W clauses p (Err Memory) = Unit {0}
 
 -- an accepted event makes this world, and has this line, those that show what it makes, and these proofs
 pub record IsTaken (W : World) (form : Datum) (e : Frame) (show : Bool) (next : World) (lines : List (List ℕ)) (proofs : EventProofs) : Type 0 where

@@ -12,9 +12,10 @@ use crate::isomorphisms::iso_conditions;
 use crate::kind::Kind;
 use crate::redundancy::Repeats;
 use event_forms::IsoParts;
+use kernel::Proved;
 use lisp_data::Symbols;
 use lists::{Memory, Text};
-use plans::{Entry, Plan};
+use plans::{Claims, Entry, Plan};
 use std::alloc::Global;
 use terms::Iso;
 use worlds::World;
@@ -88,5 +89,15 @@ impl Kind for Defiso<'_> {
         plan.conditions = iso_conditions(alloc, world, &iso)?;
         plan.entries.push(Entry::Isomorphism(iso))?;
         Ok(plan)
+    }
+
+    fn finish(
+        &self,
+        alloc: Global,
+        _world: &World,
+        _plan: &Plan,
+        _proved: &[Proved],
+    ) -> Result<Claims, Memory> {
+        Ok(Claims::new(alloc))
     }
 }

@@ -13,9 +13,10 @@ use crate::kind::Kind;
 use crate::redundancy::{Repeats, Statement};
 use crate::translated::read_term;
 use event_forms::TheoremParts;
+use kernel::Proved;
 use lisp_data::{Code, Form, Symbol, Symbols};
 use lists::{Memory, Text};
-use plans::{Condition, Entry, Plan};
+use plans::{Claims, Condition, Entry, Plan};
 use proof_texts::symbol;
 use sequents::with_term;
 use std::alloc::Global;
@@ -127,5 +128,15 @@ impl Kind for Defthm<'_> {
             .push(Entry::Theorem(self.theorem.name.share()?, claim))?;
         plan.conditions.push(goal(alloc, &universals, &formula)?)?;
         Ok(plan)
+    }
+
+    fn finish(
+        &self,
+        alloc: Global,
+        _world: &World,
+        _plan: &Plan,
+        _proved: &[Proved],
+    ) -> Result<Claims, Memory> {
+        Ok(Claims::new(alloc))
     }
 }

@@ -10,9 +10,10 @@ use crate::instances::{instance_map, read_pairs};
 use crate::kind::Kind;
 use crate::redundancy::Repeats;
 use event_forms::InstanceParts;
+use kernel::Proved;
 use lisp_data::{Code, Symbol, Symbols};
 use lists::{Memory, Text};
-use plans::{Entry, Plan};
+use plans::{Claims, Entry, Plan};
 use sequents::{renamed, terms_of};
 use std::alloc::Global;
 use terms::{FunPairs, Sequent};
@@ -97,6 +98,16 @@ impl Kind for DefthmInst<'_> {
         plan.entries
             .push(Entry::Theorem(self.instance.name.share()?, sequent))?;
         Ok(plan)
+    }
+
+    fn finish(
+        &self,
+        alloc: Global,
+        _world: &World,
+        _plan: &Plan,
+        _proved: &[Proved],
+    ) -> Result<Claims, Memory> {
+        Ok(Claims::new(alloc))
     }
 
     fn shows(&self) -> bool {

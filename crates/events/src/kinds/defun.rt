@@ -12,9 +12,10 @@ use crate::orders::Order;
 use crate::owed::measure_conditions;
 use crate::redundancy::Repeats;
 use event_forms::FunctionParts;
+use kernel::Proved;
 use lisp_data::Symbols;
 use lists::{Memory, Text};
-use plans::{Entry, Plan};
+use plans::{Claims, Entry, Plan};
 use std::alloc::Global;
 use worlds::World;
 
@@ -78,5 +79,15 @@ impl Kind for Defun<'_> {
         plan.conditions = measure_conditions(alloc, &definition)?;
         plan.entries.push(Entry::Function(definition))?;
         Ok(plan)
+    }
+
+    fn finish(
+        &self,
+        alloc: Global,
+        _world: &World,
+        _plan: &Plan,
+        _proved: &[Proved],
+    ) -> Result<Claims, Memory> {
+        Ok(Claims::new(alloc))
     }
 }

@@ -16,9 +16,10 @@ use crate::instances::{function_instance, instance_map, read_pairs};
 use crate::kind::Kind;
 use crate::redundancy::Repeats;
 use event_forms::InstanceParts;
+use kernel::Proved;
 use lisp_data::{Code, Symbol, Symbols};
 use lists::{Memory, Text};
-use plans::{Entries, Entry, Plan};
+use plans::{Claims, Entries, Entry, Plan};
 use sequents::only;
 use soft_vars::{NameMap, dependent_pairs, instantiate_term};
 use std::alloc::Global;
@@ -236,6 +237,16 @@ impl Kind for DefunInst<'_> {
         let mut plan = Plan::new(alloc);
         plan.entries = instance_of(alloc, world, &self.instance)?;
         Ok(plan)
+    }
+
+    fn finish(
+        &self,
+        alloc: Global,
+        _world: &World,
+        _plan: &Plan,
+        _proved: &[Proved],
+    ) -> Result<Claims, Memory> {
+        Ok(Claims::new(alloc))
     }
 
     fn shows(&self) -> bool {

@@ -15,9 +15,10 @@ use crate::orders::{Order, check_order};
 use crate::redundancy::Repeats;
 use crate::translated::read_term;
 use event_forms::SpecificationParts;
+use kernel::Proved;
 use lisp_data::{Form, Symbols};
 use lists::{Memory, Text};
-use plans::{Entry, Plan};
+use plans::{Claims, Entry, Plan};
 use sequents::only;
 use std::alloc::Global;
 use term_forms::Scope;
@@ -109,5 +110,15 @@ impl Kind for DefunSk2<'_> {
         let mut plan = Plan::new(alloc);
         plan.entries.push(Entry::Spec(specification))?;
         Ok(plan)
+    }
+
+    fn finish(
+        &self,
+        alloc: Global,
+        _world: &World,
+        _plan: &Plan,
+        _proved: &[Proved],
+    ) -> Result<Claims, Memory> {
+        Ok(Claims::new(alloc))
     }
 }

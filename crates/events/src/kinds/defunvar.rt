@@ -8,9 +8,10 @@ use crate::halt::Halt;
 use crate::kind::Kind;
 use crate::redundancy::Repeats;
 use event_forms::VariableParts;
+use kernel::Proved;
 use lisp_data::Symbols;
 use lists::{Memory, Text};
-use plans::{Entry, Plan};
+use plans::{Claims, Entry, Plan};
 use std::alloc::Global;
 use worlds::World;
 
@@ -56,5 +57,15 @@ impl Kind for Defunvar<'_> {
         plan.entries
             .push(Entry::Variable(name, self.variable.arity))?;
         Ok(plan)
+    }
+
+    fn finish(
+        &self,
+        alloc: Global,
+        _world: &World,
+        _plan: &Plan,
+        _proved: &[Proved],
+    ) -> Result<Claims, Memory> {
+        Ok(Claims::new(alloc))
     }
 }

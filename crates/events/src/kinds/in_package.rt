@@ -6,9 +6,10 @@ use crate::clauses::Clauses;
 use crate::halt::Halt;
 use crate::kind::Kind;
 use crate::redundancy::Repeats;
+use kernel::Proved;
 use lisp_data::Symbols;
 use lists::{Memory, Text};
-use plans::Plan;
+use plans::{Claims, Plan};
 use std::alloc::Global;
 use worlds::World;
 
@@ -45,5 +46,15 @@ impl Kind for InPackage {
 
     fn plan(&self, alloc: Global, _world: &World) -> Result<Plan, Halt> {
         Ok(Plan::new(alloc))
+    }
+
+    fn finish(
+        &self,
+        alloc: Global,
+        _world: &World,
+        _plan: &Plan,
+        _proved: &[Proved],
+    ) -> Result<Claims, Memory> {
+        Ok(Claims::new(alloc))
     }
 }

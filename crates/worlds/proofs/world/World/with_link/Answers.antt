@@ -6,4 +6,4 @@ use Rattle.worlds.proofs.world.World.with_link.Goals as goal
 pub with_entry-requires-clause-kept : goal.with_entry-requires-clause-kept
 with_entry-requires-clause-kept c =
     let before = subst (λ W. IsWorld W c.self.inside.theorems c.self.inside.first_order) c.self.view_is c.self.invariant in
-    with_link c.worlds_grow.ensures c.args.self.now c.self.inside.theorems c.self.inside.first_order before c.args.theorem c.args.link
+    with_link c.worlds_grow.ensures c.args.self.now c.self.inside.theorems c.self.inside.first_order before c.args.theorem c.args.link c.requires

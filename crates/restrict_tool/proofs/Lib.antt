@@ -1,0 +1,15 @@
+pub mod Renamed
+pub mod Formed
+pub mod Planned
+pub mod Independent
+pub mod Owed
+pub mod Lawful
+pub mod Alike
+pub mod Agreement
+pub mod Unfolding
+pub mod Calling
+pub mod Third
+pub mod Proving
+pub mod Agreeing
+pub mod NewWorld
+pub mod Parted
