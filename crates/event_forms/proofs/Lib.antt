@@ -1,4 +1,5 @@
 pub mod DeclarationLemmas
 pub mod KeyLemmas
 pub mod PairLemmas
+pub mod MapLemmas
 pub mod ConstantLemmas

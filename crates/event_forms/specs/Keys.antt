@@ -13,7 +13,7 @@ use Rattle.event_forms.specs.Places.{is_symbol}
 use Rattle.event_forms.specs.Refused.{bad_part, bad_key, unknown_key}
 use Rattle.event_forms.specs.declared.clauses.ClauseKind.TheVariants.{Proof, Hints}
 use Rattle.event_forms.specs.declared.keys.Keyed.{Keyed}
-use Rattle.event_forms.specs.declared.keys.Keyed.TheVariants.{Function, Theorem, Isomorphism, Restriction, FunctionInstance, TheoremInstance, Book}
+use Rattle.event_forms.specs.declared.keys.Keyed.TheVariants.{Function, Theorem, Isomorphism, Restriction, Isodata, FunctionInstance, TheoremInstance, Book}
 use Rattle.event_forms.specs.declared.keys.SeenKeys.{SeenKeys}
 
 -- the keys that an event or a declaration takes
@@ -22,6 +22,7 @@ known_keys Function = codes ":GUARD" ∷ codes ":VERIFY-GUARDS" ∷ codes ":GUAR
 known_keys Theorem = codes ":RULE-CLASSES" ∷ codes ":ASSUMING" ∷ codes ":HOW" ∷ codes ":PROOF" ∷ []
 known_keys Isomorphism = codes ":HOW" ∷ codes ":PROOF" ∷ []
 known_keys Restriction = codes ":NEW-NAME" ∷ codes ":THM-NAME" ∷ codes ":UNDEFINED" ∷ codes ":HOW" ∷ codes ":PROOF" ∷ []
+known_keys Isodata = codes ":NEW-NAME" ∷ codes ":NEW-TO-OLD-NAME" ∷ codes ":OLD-TO-NEW-NAME" ∷ codes ":HOW" ∷ codes ":PROOF" ∷ []
 known_keys FunctionInstance = codes ":VERIFY-GUARDS" ∷ []
 known_keys TheoremInstance = codes ":RULE-CLASSES" ∷ []
 known_keys Book = codes ":DIR" ∷ []
@@ -32,6 +33,7 @@ part_word Function = codes "declare"
 part_word Theorem = codes "arguments"
 part_word Isomorphism = codes "arguments"
 part_word Restriction = codes "arguments"
+part_word Isodata = codes "arguments"
 part_word FunctionInstance = codes "arguments"
 part_word TheoremInstance = codes "arguments"
 part_word Book = codes "arguments"
@@ -64,10 +66,10 @@ in_theorem named k v =
 
 -- the keys whose values are names
 unfoldable pub name_keys : List Name
-name_keys = codes ":NEW-NAME" ∷ codes ":THM-NAME" ∷ []
+name_keys = codes ":NEW-NAME" ∷ codes ":THM-NAME" ∷ codes ":NEW-TO-OLD-NAME" ∷ codes ":OLD-TO-NEW-NAME" ∷ []
 
-abbrev pub in_restriction : List Name → Name → Datum → Option (List Name)
-in_restriction named k v =
+abbrev pub in_transformation : List Name → Name → Datum → Option (List Name)
+in_transformation named k v =
     if is_in name_keys k then (if is_symbol v then Some named else None)
     else if bytes_eq k (codes ":UNDEFINED") then (if is_constant v then Some named else None)
     else in_clauses named k v
@@ -76,7 +78,8 @@ abbrev pub named_by : Keyed → List Name → Name → Datum → Option (List Na
 named_by Function named k v = in_clauses named k v
 named_by Theorem named k v = in_theorem named k v
 named_by Isomorphism named k v = in_clauses named k v
-named_by Restriction named k v = in_restriction named k v
+named_by Restriction named k v = in_transformation named k v
+named_by Isodata named k v = in_transformation named k v
 named_by FunctionInstance named k v = Some named
 named_by TheoremInstance named k v = Some named
 named_by Book named k v = if is_word (codes ":SYSTEM") v then Some named else None

@@ -10,5 +10,6 @@ pub mod Isomorphisms
 pub mod Instances
 pub mod SecondOrder
 pub mod Transformations
+pub mod Representations
 pub mod Shapes
 pub mod view

@@ -13,6 +13,7 @@ use Rattle.event_forms.specs.Clauses.{clauses_in, hints_in, given_items}
 use Rattle.event_forms.specs.Declarations.{body_of, declared_value}
 use Rattle.event_forms.specs.Instances.{InstanceParts, instance_parts}
 use Rattle.event_forms.specs.Isomorphisms.{IsoParts, iso_of}
+use Rattle.event_forms.specs.Representations.{IsodataParts, isodata_of}
 use Rattle.event_forms.specs.Transformations.{RestrictParts, restrict_of}
 use Rattle.event_forms.specs.SecondOrder.{VariableParts, SpecificationParts, variable_parts, specification_parts}
 use Rattle.event_forms.specs.declared.keys.Keyed.TheVariants.{Theorem, FunctionInstance, TheoremInstance, Book}
@@ -43,6 +44,7 @@ pub data Event : Type 0 where
   Defthm : (theorem : TheoremParts) → Event
   Defiso : (iso : IsoParts) → Event
   Restrict : (restriction : RestrictParts) → Event
+  Isodata : (representation : IsodataParts) → Event
   Defun2 : (function : FunctionParts) → Event
   Defunvar : (variable : VariableParts) → Event
   DefunSk2 : (specification : SpecificationParts) → Event
@@ -145,6 +147,10 @@ defiso parts = map_outcome Defiso (iso_of parts)
 abbrev pub restrict : List Datum → Outcome Event
 restrict parts = map_outcome Restrict (restrict_of parts)
 
+-- `(isodata f ((x iso) ..) key value ..)`
+abbrev pub isodata : List Datum → Outcome Event
+isodata parts = map_outcome Isodata (isodata_of parts)
+
 -- `(value-triple form)`
 abbrev pub value_triple : List Datum → Outcome Event
 value_triple (form ∷ []) = Ok (ValueTriple form)
@@ -159,6 +165,7 @@ by_parts (Some (word ∷ parts)) =
     else if is_word (codes "DEFTHM") word then defthm parts
     else if is_word (codes "DEFISO") word then defiso parts
     else if is_word (codes "RESTRICT") word then restrict parts
+    else if is_word (codes "ISODATA") word then isodata parts
     else if is_word (codes "DEFUN2") word then defun2 parts
     else if is_word (codes "DEFUNVAR") word then defunvar parts
     else if is_word (codes "DEFUN-SK2") word then defun_sk2 parts

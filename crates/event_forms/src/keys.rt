@@ -99,7 +99,12 @@ fn named_in_theorem(
 }
 
 /// The keys whose values are names.
-const NAME_KEYS: [&str; 2] = [":NEW-NAME", ":THM-NAME"];
+const NAME_KEYS: [&str; 4] = [
+    ":NEW-NAME",
+    ":THM-NAME",
+    ":NEW-TO-OLD-NAME",
+    ":OLD-TO-NEW-NAME",
+];
 
 #[tactic(auto, unfolding(crate::specs::Keys::name_keys))]
 fn is_name_key(key: &str) -> bool
@@ -108,14 +113,14 @@ fn is_name_key(key: &str) -> bool
     is_among(&NAME_KEYS, key.as_bytes())
 }
 
-fn named_in_restriction(
+fn named_in_transformation(
     alloc: Global,
     named: Symbols,
     key: &str,
     value: &Form,
 ) -> Result<Option<Symbols>, Memory>
     requires { IsProper value.now }
-    ensures { IfOk result (λ names. names ≡ spec.in_restriction named key.now (form_of value.now)) }
+    ensures { IfOk result (λ names. names ≡ spec.in_transformation named key.now (form_of value.now)) }
 {
     if is_name_key(key) {
         if symbol(value).is_some() {
@@ -133,13 +138,15 @@ fn named_in_restriction(
     }
 }
 
-/// Where keys stand: in the declarations of a function, in a theorem, an isomorphism, a restriction or an instance, or behind the name of a book.
+/// Where keys stand: in the declarations of a function, in a theorem, an isomorphism, a transformation or an instance, or
+/// behind the name of a book.
 #[derive(Clone, Copy, Debug, PartialEq, Eq)]
 pub enum Keyed {
     Function,
     Theorem,
     Isomorphism,
     Restriction,
+    Isodata,
     FunctionInstance,
     TheoremInstance,
     Book,
@@ -167,6 +174,16 @@ impl Keyed {
             Keyed::Restriction => {
                 [":NEW-NAME", ":THM-NAME", ":UNDEFINED", ":HOW", ":PROOF"].as_slice()
             }
+            Keyed::Isodata => {
+                [
+                    ":NEW-NAME",
+                    ":NEW-TO-OLD-NAME",
+                    ":OLD-TO-NEW-NAME",
+                    ":HOW",
+                    ":PROOF",
+                ]
+                .as_slice()
+            }
             Keyed::FunctionInstance => [":VERIFY-GUARDS"].as_slice(),
             Keyed::TheoremInstance => [":RULE-CLASSES"].as_slice(),
             Keyed::Book => [":DIR"].as_slice(),
@@ -183,6 +200,7 @@ impl Keyed {
             Keyed::Theorem
             | Keyed::Isomorphism
             | Keyed::Restriction
+            | Keyed::Isodata
             | Keyed::FunctionInstance
             | Keyed::TheoremInstance
             | Keyed::Book => "arguments",
@@ -203,7 +221,9 @@ impl Keyed {
         match self {
             Keyed::Function | Keyed::Isomorphism => named_in_clauses(named, key, value),
             Keyed::Theorem => named_in_theorem(alloc, named, key, value),
-            Keyed::Restriction => named_in_restriction(alloc, named, key, value),
+            Keyed::Restriction | Keyed::Isodata => {
+                named_in_transformation(alloc, named, key, value)
+            }
             Keyed::FunctionInstance | Keyed::TheoremInstance => Ok(Some(named)),
             Keyed::Book => {
                 if is_word(value, ":SYSTEM") {

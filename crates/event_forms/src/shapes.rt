@@ -17,6 +17,7 @@ use crate::instances::{InstanceParts, instance};
 use crate::isomorphisms::{IsoParts, iso};
 use crate::keys::{Keyed, SeenKeys, read_keys, value_of};
 use crate::places::{formals, name, string};
+use crate::representations::{IsodataParts, representation};
 use crate::second_order::{SpecificationParts, VariableParts, specification, variable};
 use crate::transformations::{RestrictParts, restriction};
 use lisp_data::{Form, Symbol};
@@ -60,6 +61,7 @@ pub enum Event<'a> {
     Defthm(TheoremParts<'a>),
     Defiso(IsoParts<'a>),
     Restrict(RestrictParts<'a>),
+    Isodata(IsodataParts<'a>),
     Defun2(FunctionParts<'a>),
     Defunvar(VariableParts<'a>),
     DefunSk2(SpecificationParts<'a>),
@@ -300,6 +302,16 @@ fn restrict<'a>(alloc: Global, parts: &'a [Form]) -> Result<Event<'a>, EventErro
     Ok(Event::Restrict(restriction))
 }
 
+/// `(isodata f ((x iso) ..) key value ..)`.
+fn isodata<'a>(alloc: Global, parts: &'a [Form]) -> Result<Event<'a>, EventError>
+    requires { AllProper parts.now }
+    ensures event { Says seen (spec.isodata (map form_of parts.now)) result }
+    ensures proper { IfOk result HasProperParts }
+{
+    let representation = representation(alloc, parts)?;
+    Ok(Event::Isodata(representation))
+}
+
 /// `(value-triple form)`.
 fn value_triple<'a>(alloc: Global, parts: &'a [Form]) -> Result<Event<'a>, EventError>
     requires { AllProper parts.now }
@@ -329,6 +341,8 @@ pub fn read_event(alloc: Global, form: &Form) -> Result<Event<'_>, EventError>
         defiso(alloc, parts)
     } else if is_word(word, "RESTRICT") {
         restrict(alloc, parts)
+    } else if is_word(word, "ISODATA") {
+        isodata(alloc, parts)
     } else if is_word(word, "DEFUN2") {
         defun2(alloc, parts)
     } else if is_word(word, "DEFUNVAR") {

@@ -36,7 +36,11 @@ pub struct RestrictParts<'a> {
 }
 
 /// The name that is a key's value; a key that has to be given may be missing.
-fn required<'a>(alloc: Global, key: &str, parts: &'a [Form]) -> Result<&'a Symbol, EventError>
+pub(crate) fn required<'a>(
+    alloc: Global,
+    key: &str,
+    parts: &'a [Form],
+) -> Result<&'a Symbol, EventError>
     requires key { is_symbol_text key.now ≡ true }
     requires proper { AllProper parts.now }
     ensures { Says (λ name. name.now) (spec.required key.now (map form_of parts.now)) result }

@@ -8,6 +8,7 @@ pub mod Printed
 pub mod Lawful
 pub mod LawfulIsomorphisms
 pub mod LawfulRestrictions
+pub mod LawfulIsodata
 pub mod InstanceLemmas
 pub mod LawfulInstances
 pub mod HandleLemmas

@@ -8,7 +8,7 @@ use Rattle.term_forms.specs.Translation.{Outcome}
 use Rattle.evaluator.specs.Counted as evaluation
 use Rattle.evaluator.specs.Counted.{Gives, Stops, evaluated}
 use Rattle.evaluator.specs.Laws.{CountedLaw}
-use Rattle.event_forms.specs.Shapes.{Event, InPackage, IncludeBook, Defun, Defthm, Defiso, Restrict, Defun2, Defunvar, DefunSk2, DefunInst, DefthmInst, ValueTriple, event_of}
+use Rattle.event_forms.specs.Shapes.{Event, InPackage, IncludeBook, Defun, Defthm, Defiso, Restrict, Isodata, Defun2, Defunvar, DefunSk2, DefunInst, DefthmInst, ValueTriple, event_of}
 use Rattle.plans.specs.declared.plan.Plan.{Plan}
 use Rattle.events.specs.Frames.{Judged, Frame, coded, goes_on}
 use Rattle.events.specs.Kinds.{frame_of}
@@ -52,6 +52,7 @@ module _ (law : CountedLaw) (W : World) where
   true_by_shape form v (Ok (Defun function)) h = absurd (silent W form (frame_of (Defun function)) refl v h)
   true_by_shape form v (Ok (Defthm theorem)) h = absurd (silent W form (frame_of (Defthm theorem)) refl v h)
   true_by_shape form v (Ok (Restrict restriction)) h = absurd (silent W form (frame_of (Restrict restriction)) refl v h)
+  true_by_shape form v (Ok (Isodata representation)) h = absurd (silent W form (frame_of (Isodata representation)) refl v h)
   true_by_shape form v (Ok (Defiso iso)) h = absurd (silent W form (frame_of (Defiso iso)) refl v h)
   true_by_shape form v (Ok (Defun2 function)) h = absurd (silent W form (frame_of (Defun2 function)) refl v h)
   true_by_shape form v (Ok (Defunvar variable)) h = absurd (silent W form (frame_of (Defunvar variable)) refl v h)

@@ -10,6 +10,7 @@ pub mod Defun
 pub mod Defthm
 pub mod Defiso
 pub mod Restrict
+pub mod Isodata
 pub mod Defunvar
 pub mod DefunSk2
 pub mod DefunInst

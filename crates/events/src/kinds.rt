@@ -9,5 +9,6 @@ pub(crate) mod defun_sk2;
 pub(crate) mod defunvar;
 pub(crate) mod in_package;
 pub(crate) mod include_book;
+pub(crate) mod isodata;
 pub(crate) mod restrict;
 pub(crate) mod value_triple;

@@ -17,6 +17,7 @@ use crate::kinds::defun_sk2::DefunSk2;
 use crate::kinds::defunvar::Defunvar;
 use crate::kinds::in_package::InPackage;
 use crate::kinds::include_book::IncludeBook;
+use crate::kinds::isodata::Isodata;
 use crate::kinds::restrict::Restrict;
 use crate::kinds::value_triple;
 use crate::lines::refused_lines;
@@ -64,6 +65,9 @@ fn answer(alloc: Global, world: &World, form: &Form, show: bool) -> Result<StepA
         Event::Defiso(iso) => handle(alloc, world, form, &Defiso { iso }, show),
         Event::Restrict(restriction) => {
             handle(alloc, world, form, &Restrict { restriction }, show)
+        }
+        Event::Isodata(representation) => {
+            handle(alloc, world, form, &Isodata { representation }, show)
         }
         Event::Defunvar(variable) => handle(alloc, world, form, &Defunvar { variable }, show),
         Event::DefunSk2(specification) => {

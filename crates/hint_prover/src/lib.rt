@@ -17,6 +17,6 @@ pub use formulas::{conditional, equation, implication};
 pub use prover::{MAX_STEPS, checked, prove};
 pub use starting::{by_calls, cut_conjunction};
 pub use trees::{
-    by_axiom, by_body, cases, cut, hyp, if_false, if_true, implies_in, implies_out, owed, refl,
-    replace,
+    by_axiom, by_body, cases, cut, hyp, if_false, if_true, implies_in, implies_out, of_iso, owed,
+    refl, replace, under,
 };

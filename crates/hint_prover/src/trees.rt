@@ -72,7 +72,7 @@ pub(crate) fn eval(alloc: Global, a: &Term) -> Result<Proof, Memory>
 }
 
 /// What `p` proves, with terms for its variables.
-pub(crate) fn under(alloc: Global, p: Proof, s: &Subst) -> Result<Proof, Memory>
+pub fn under(alloc: Global, p: Proof, s: &Subst) -> Result<Proof, Memory>
     ensures { IfOk result (λ it. it ≡ spec.Substitute p s.now) }
 {
     let s = s.copy(alloc)?;
@@ -171,6 +171,14 @@ pub fn owed(alloc: Global, name: &Symbol, number: u32) -> Result<Proof, Memory>
 {
     let name = name.share()?;
     alone(alloc, Step::Theorem(FactName::Measure(name, number)))
+}
+
+/// A condition of an isomorphism: 1 is `:forth-image`, 2 `:back-image`, 3 `:back-of-forth`, 4 `:forth-of-back`.
+pub fn of_iso(alloc: Global, name: &Symbol, number: u32) -> Result<Proof, Memory>
+    ensures { IfOk result (λ it. it ≡ spec.OfIso name.now number) }
+{
+    let name = name.share()?;
+    alone(alloc, Step::Theorem(FactName::Isomorphism(name, number)))
 }
 
 /// Induction; the subproofs are those of the measure and of the base, then one for each case.

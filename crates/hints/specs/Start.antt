@@ -2,9 +2,9 @@
 use Rattle.std.specs.Prelude.{ℕ, List, [], ◌∷◌, ◌++◌, map, codes, Option, Some, None}
 use Rattle.lisp_data.specs.Values.{Name}
 use Rattle.terms.specs.Terms.{Tm, Var, tm_list, substitute}
-use Rattle.terms.specs.BuiltIn.{yes, no, if_else}
 use Rattle.terms.specs.Definitions.{find}
 use Rattle.terms.specs.Joins.{join}
+pub use Rattle.terms.specs.Links.{conjunction_from, conjunction}
 use Rattle.terms.specs.Measures.{RecursiveCall, recursive_calls, call2}
 use Rattle.terms.specs.Primitives.{lookup}
 use Rattle.terms.specs.Substitution.{Pairs, by_pairs}
@@ -20,15 +20,6 @@ use Rattle.hints.specs.declared.hint.Use.{Use}
 
 abbrev pub implication : Tm → Tm → Tm
 implication a b = call2 (codes "IMPLIES") a b
-
--- `(if t1 (if t2 .. 'nil) 'nil)`; of no terms `'t`
-abbrev pub conjunction_from : Tm → List Tm → Tm
-conjunction_from t [] = t
-conjunction_from t (u ∷ us) = if_else t (conjunction_from u us) no
-
-abbrev pub conjunction : List Tm → Tm
-conjunction [] = yes
-conjunction (t ∷ ts) = conjunction_from t ts
 
 -- `(implies h1 (implies h2 .. g))`
 abbrev pub folded : List Tm → Tm → Tm

@@ -4,8 +4,9 @@ ghost use Rattle.std.specs.Prelude.{◌≡◌, [], IfOk, None, pos};
 ghost use Rattle.lisp_data.specs.Values.{Int};
 ghost use Rattle.lisp_data.specs.FormView.{IsProper};
 ghost use Rattle.terms.specs.Terms.{Quote};
-ghost use Rattle.terms.specs.Sound.{AllHold, iso_conditions};
-ghost use Rattle.terms.specs.Worlds.{Functions, Holds};
+ghost use Rattle.terms.specs.Links.{IsFirstOrder};
+ghost use Rattle.terms.specs.Sound.{AllHold, initial_world, iso_conditions};
+ghost use Rattle.terms.specs.Worlds.{Functions, Holds, World};
 
 use lisp_data::{Form, Forms, Memory, Seq, Symbol, Value};
 use std::alloc::Global;
@@ -64,7 +65,8 @@ fn specification(alloc: Global, name: &Symbol) -> Result<Specification, Fail>
 
 /// The integers with themselves, by negation.
 fn negation(alloc: Global, name: &Symbol) -> Result<Iso, Fail>
-    ensures { IfOk result (λ i. (W : Functions) → AllHold W (iso_conditions i)) }
+    ensures hold { IfOk result (λ i. (W : Functions) → AllHold W (iso_conditions i)) }
+    ensures first_order { IfOk result (λ i. (W : World) → W.functions ≡ initial_world.functions → IsFirstOrder W i) }
 {
     let name = name.share()?;
     let integerp = Symbol::new(alloc, "INTEGERP")?;

@@ -30,7 +30,7 @@ entry_sound W sound (Theorem n s) a =
     let f = free W n a.0 in
     worlds_grow.theorem W sound n s f.unlike_primitives f.new a.1.no_hyps a.1.fits a.1.holds
 entry_sound W sound (Spec s) a = let f = free W s.name a.0 in worlds_grow.specification W sound s f.unlike_primitives f.new a.1
-entry_sound W sound (Isomorphism i) a = let f = free W i.name a.0 in worlds_grow.iso W sound i f.unlike_primitives f.new a.1
+entry_sound W sound (Isomorphism i) a = let f = free W i.name a.0 in worlds_grow.iso W sound i f.unlike_primitives f.new a.1.0 a.1.1
 entry_sound W sound (Instance of pairs instance) a = worlds_grow.instance W sound of pairs instance a
 entry_sound W sound (Chained n l) a = worlds_grow.link W sound n l a
 

@@ -3,7 +3,7 @@ use Rattle.std.specs.Prelude.{◌≡◌, true, List, [], ◌∷◌}
 use Rattle.terms.specs.Worlds.{World, FitsSequent, Holds}
 use Rattle.terms.specs.Formed.{IsWellFormed, FitsOver, ObligationsHold}
 use Rattle.terms.specs.Instances.{IsRecorded}
-use Rattle.terms.specs.Links.{IsLinked}
+use Rattle.terms.specs.Links.{IsFirstOrder, IsLinked}
 use Rattle.terms.specs.Sound.{AllHold, iso_conditions, add_definition, add_variable, add_theorem, add_specification, add_iso, instance_of, add_instance, add_link}
 use Rattle.terms.specs.declared.definition.Definition.{Definition}
 use Rattle.terms.specs.declared.sequent.Sequent.{Sequent}
@@ -56,7 +56,7 @@ Admits W (Function d) = IsNewDefinition W d
 Admits W (Variable x k) = is_free W x ≡ true
 Admits W (Theorem n s) = (is_free W n ≡ true) × IsNewTheorem W s
 Admits W (Spec s) = (is_free W s.name ≡ true) × FitsOver W.functions s.variables s.matrix
-Admits W (Isomorphism i) = (is_free W i.name ≡ true) × AllHold W.functions (iso_conditions i)
+Admits W (Isomorphism i) = (is_free W i.name ≡ true) × (AllHold W.functions (iso_conditions i) × IsFirstOrder W i)
 Admits W (Instance of pairs instance) = IsRecorded W (instance_of of pairs instance)
 Admits W (Chained n l) = IsLinked W n l
 

@@ -2,7 +2,7 @@
 
 ghost use Rattle.std.specs.Prelude.{◌≡◌, true, IfOk, IsErrOf, Ok};
 ghost use Rattle.terms.specs.Instances.{IsRecorded};
-ghost use Rattle.terms.specs.Links.{IsLinked};
+ghost use Rattle.terms.specs.Links.{IsFirstOrder, IsLinked};
 ghost use Rattle.terms.specs.Sound.{AllHold, add_iso, add_link, add_theorem, instance_of, add_instance, iso_conditions};
 ghost use Rattle.worlds.specs.Names.{is_free};
 ghost use Rattle.plans.specs.Entries.{Admits, AdmitsAll, AdmitsFunction, AdmitsFunctions, IsNewTheorem, add_entry, add_entries, add_function, add_functions};
@@ -45,6 +45,7 @@ fn with_new_theorem(
 fn with_new_iso(alloc: Global, world: &World, iso: &Iso) -> Result<World, Memory>
     requires free { is_free world.now iso.now.name ≡ true }
     requires hold { AllHold world.now.functions (iso_conditions iso.now) }
+    requires first_order { IsFirstOrder world.now iso.now }
     ensures { IfOk result (λ next. next ≡ add_iso iso.now world.now) }
 {
     let iso = iso.copy(alloc)?;

@@ -112,20 +112,20 @@ fn of_call(
     proof_from(alloc, calls.proved, &condition)
 }
 
-/// One argument after the other is replaced.
+/// Of `on`, an equation whose right side is a call, one with another argument after the other replaced, each by the
+/// equation of its proof.
 #[tactic(auto, using(crate::proofs::Differences::replacements))]
-fn each_replaced(alloc: Global, proofs: &[Proof], call: &Term) -> Result<Proof, Memory>
-    ensures { IfOk result (λ it. it ≡ spec.each_replaced 1 proofs.now (Refl call.now)) }
+pub fn each_replaced(alloc: Global, proofs: &[Proof], mut on: Proof) -> Result<Proof, Memory>
+    ensures { IfOk result (λ it. it ≡ spec.each_replaced 1 proofs.now on) }
 {
-    let mut all = refl(alloc, call)?;
     for i in 0..proofs.len() {
         let Ok(number) = u32::try_from(i + 1) else {
             return Err(Memory);
         };
         let path = Path::from_slice(alloc, &[2, number])?;
-        all = replace(alloc, proofs[i].share()?, all, path)?;
+        on = replace(alloc, proofs[i].share()?, on, path)?;
     }
-    Ok(all)
+    Ok(on)
 }
 
 /// Of `p`, that two branches are equal: `old` chooses the one in the first `if`, `new` the other in the second, `whole`.
@@ -230,7 +230,7 @@ fn of_args(
     ensures { IfOk result (λ it. it ≡ spec.of_args (place_of first.entry) call.now (tms olds.now) (tms news.now) proofs.now) }
 {
     match first {
-        Position::Plain => each_replaced(alloc, proofs, call),
+        Position::Plain => each_replaced(alloc, proofs, refl(alloc, call)?),
         Position::Test(test) => by_branches(alloc, test, olds, news, proofs),
         Position::Then(test) => refl(alloc, test),
         Position::Else(test) => refl(alloc, test),

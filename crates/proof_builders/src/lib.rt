@@ -7,7 +7,7 @@ mod hypotheses;
 mod induction;
 mod laws;
 
-pub use congruence::body_congruence;
+pub use congruence::{body_congruence, each_replaced};
 pub use derived::{both, chained, first_of_both, gathered, scattered, second_of_both};
 pub use hypotheses::{at_call, hypothesis, scheme};
 pub use induction::induct_on_calls;

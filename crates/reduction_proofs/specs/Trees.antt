@@ -69,6 +69,10 @@ Instance n pairs = alone (step.Instance (fact.Theorem n) pairs)
 abbrev pub Owed : Name → ℕ → Proof
 Owed f k = alone (step.Theorem (fact.Measure f k))
 
+-- the condition k of an isomorphism, from 1 on
+abbrev pub OfIso : Name → ℕ → Proof
+OfIso n k = alone (step.Theorem (fact.Isomorphism n k))
+
 -- the proofs that the measure is natural and of the goal, then one for each case
 abbrev pub Induct : Tm → List InductionCase → Proof → Proof → List Proof → Proof
 Induct m cs P B ps = By (step.Induct m cs) (trees (P ∷ B ∷ ps))

@@ -26,7 +26,7 @@ use Rattle.restrict_tool.specs.Laws.{HasBoth, CallsAgree, BodiesAreAlike, Unfold
 use Rattle.restrict_tool.specs.Parts.{Agrees}
 use Rattle.restrict_tool.specs.Proofs.{hypotheses, agreement, agreements, by_hypothesis, same_bodies, unfolded}
 use Rattle.restrict_tool.specs.Restrictions.{new_body, restricted, same_where, stays_restricted}
-use Rattle.restrict_tool.proofs.Proving.{item-at, mapped-at, length-mapped, proof-at}
+use Rattle.tool_parts.proofs.Proving.{item-at, mapped-at, length-mapped, proof-at}
 
 -- what a proved sequent proves
 condition_by : (W : World) (k : Sequent) (m : Conclusion) → m.world ≡ W → concludes m.world m.proof ≡ Some m.sequent → proves m.sequent k ≡ true → ProvesCondition W k m.proof

@@ -24,7 +24,7 @@ use Rattle.term_forms.specs.TranslationLaws.{HasWords}
 use Rattle.term_forms.proofs.TranslatedTerms.{translated_terms_fit}
 use Rattle.restrict_tool.specs.Restrictions.{Request, AreNew, new_body, restricted, restriction_of}
 use Rattle.restrict_tool.specs.Restrictions as spec
-use Rattle.restrict_tool.specs.view.Requests.{IsCounted}
+use Rattle.tool_parts.specs.Counted.{IsCounted}
 use Rattle.restrict_tool.proofs.Renamed.{unknown, lacks, no_nest, mentions_renamed, nested_renamed, fits_renamed}
 
 some_is : {A : Type 0} {x y : A} → Some x ≡ Some y → x ≡ y

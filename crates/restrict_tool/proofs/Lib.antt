@@ -7,9 +7,7 @@ pub mod Lawful
 pub mod Alike
 pub mod Agreement
 pub mod Unfolding
-pub mod Calling
 pub mod Third
-pub mod Proving
 pub mod Agreeing
 pub mod NewWorld
 pub mod Parted

@@ -25,9 +25,9 @@ use Rattle.reduction_proofs.specs.Trees.{Owed}
 use Rattle.restrict_tool.specs.Laws.{HasBoth, RestrictionOwes}
 use Rattle.restrict_tool.specs.Parts.{AreParts}
 use Rattle.restrict_tool.specs.Restrictions.{Request, AreNew, restricted, same_where, stays_restricted, planned}
-use Rattle.restrict_tool.specs.view.Requests.{IsCounted}
+use Rattle.tool_parts.specs.Counted.{IsCounted}
 use Rattle.restrict_tool.proofs.Formed.{old_counted, apart, two, restriction_fits_later, new_formed}
-use Rattle.restrict_tool.proofs.Proving.{sequents-numbered}
+use Rattle.tool_parts.proofs.Proving.{sequents-numbered}
 
 -- what holds at each place holds of each item
 each_at : {A : Type 0} (P : A → Type 0) (xs : List A) → ((k : ℕ) (x : A) → slice_get xs k ≡ Some x → P x) → Each P xs

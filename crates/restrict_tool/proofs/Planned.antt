@@ -17,7 +17,7 @@ use Rattle.soft_vars.specs.Dependents.{variables_in, variables_of}
 use Rattle.plans.specs.declared.plan.Plan.{Plan}
 use Rattle.plan_checks.specs.Checks.{defined, no_variables, first_order_definition, first_order_term}
 use Rattle.restrict_tool.specs.Restrictions.{Request, AreNew, restricted, restriction_of, planned, plan_of}
-use Rattle.restrict_tool.specs.view.Requests.{IsCounted}
+use Rattle.tool_parts.specs.Counted.{IsCounted}
 use Rattle.restrict_tool.proofs.Formed.{old_counted, new_counted, translated_fits}
 
 -- where the second of two steps succeeds, the first does

@@ -15,9 +15,10 @@ ghost use Rattle.restrict_tool.specs.Laws.{HasBoth};
 ghost use Rattle.restrict_tool.specs.Parts.{Agrees};
 ghost use Rattle.restrict_tool.specs.Proofs.{hypotheses as Hypotheses, agreement as Agreement, agreements as Agreements, same_bodies as SameBodies};
 ghost use Rattle.restrict_tool.specs.Restrictions as spec;
-ghost use Rattle.restrict_tool.specs.view.Requests.{request_seen, IsCounted};
+ghost use Rattle.restrict_tool.specs.view.Requests.{request_seen};
+ghost use Rattle.tool_parts.specs.Counted.{IsCounted};
 
-use crate::formulas::{alone, calls_of, new_body, same_where};
+use crate::formulas::{new_body, same_where};
 use crate::laws::{bodies_are_alike, calls_agree, restriction_owes, unfolding_proves};
 use crate::parts::{Parts, parts_of};
 use crate::planning::Request;
@@ -30,10 +31,11 @@ use plans::{Claims, Plan, ProvedList, install_functions, proved_conditions_hold}
 use proof_builders::{body_congruence, induct_on_calls};
 use std::alloc::Global;
 use terms::{Definition, Sequent, Term, Terms};
+use tool_parts::{alone, calls_of};
 use worlds::World;
 
 /// Proofs of what the new function owes: each is the same of what the old one owes.
-#[tactic(auto, using(crate::proofs::Proving::proving))]
+#[tactic(auto, using(tool_parts::proofs::Proving::proving))]
 fn owing(
     alloc: Global,
     world: &World,
@@ -81,7 +83,7 @@ fn agreement_at(
 }
 
 /// That the functions agree at each recursive call, from the proofs of the conditions.
-#[tactic(auto, using(crate::proofs::Proving::proving))]
+#[tactic(auto, using(tool_parts::proofs::Proving::proving))]
 fn agreements(
     alloc: Global,
     parts: &Parts<'_>,

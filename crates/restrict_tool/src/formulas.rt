@@ -8,52 +8,17 @@ ghost use Rattle.terms.specs.Terms.{Call, tms};
 ghost use Rattle.terms.specs.Worlds.{Distinct};
 ghost use Rattle.kernel.specs.Sequents.{equation as Equation};
 ghost use Rattle.restrict_tool.specs.Restrictions as spec;
-ghost use Rattle.restrict_tool.specs.view.Requests.{IsCounted};
+ghost use Rattle.tool_parts.specs.Counted.{IsCounted};
 
 use hint_prover::{equation, implication};
 use lisp_data::{Memory, Symbol, Symbols};
-use measures::{MeasureError, RecursiveCall, RecursiveCalls, recursive_calls};
+use measures::RecursiveCall;
 use proof_builders::at_call;
 use sequents::{only, without_repeats};
 use soft_vars::{NameMap, instantiate_term};
 use std::alloc::Global;
 use terms::{Definition, Sequent, Term, Terms};
-
-/// A goal without universals and hypotheses.
-pub(crate) fn alone(alloc: Global, goal: Term) -> Sequent
-    ensures { result ≡ Alone goal }
-{
-    Sequent {
-        universals: Terms::new(alloc),
-        hyps: Terms::new(alloc),
-        goal,
-    }
-}
-
-/// The terms, and then more.
-pub(crate) fn followed(mut terms: Terms, more: &Terms) -> Result<Terms, Memory>
-    ensures { IfOk result (λ all. all ≡ terms ++ more.now) }
-{
-    for term in more.as_slice() {
-        terms.push(term.share()?)?;
-    }
-    Ok(terms)
-}
-
-/// A function at variables.
-pub(crate) fn at_variables(
-    alloc: Global,
-    function: &Symbol,
-    variables: &Symbols,
-) -> Result<Term, Memory>
-    ensures { IfOk result (λ t. t ≡ AtVariables function.now variables.now) }
-{
-    let mut args = Terms::new(alloc);
-    for variable in variables.as_slice() {
-        args.push(Term::var(alloc, variable.share()?)?)?;
-    }
-    Term::call(alloc, function.share()?, args)
-}
+use tool_parts::{at_variables, followed};
 
 /// The body of the old function, with calls of the new one.
 pub(crate) fn new_body(
@@ -113,20 +78,4 @@ pub(crate) fn stays_restricted(
         hyps: without_repeats(alloc, &hyps)?,
         goal: at_call(alloc, &definition.formals, restriction, call)?,
     })
-}
-
-/// The recursive calls of a definition.
-#[tactic(auto, using(crate::proofs::Calling::calling))]
-pub(crate) fn calls_of(alloc: Global, definition: &Definition) -> Result<RecursiveCalls, Memory>
-    requires { IsCounted definition.now }
-    ensures calls { IfOk result (λ cs. map call_of cs ≡ measure.recursive_calls definition.now.name [] definition.now.body) }
-    ensures lengths { IfOk result (λ cs. All (λ c. length definition.now.formals ≡ length c.args) cs) }
-{
-    match recursive_calls(alloc, &definition.name, &definition.body) {
-        Ok(calls) => Ok(calls),
-        Err(error) => match error {
-            MeasureError::Nested | MeasureError::NoMeasure => unreachable!(),
-            MeasureError::Memory => Err(Memory),
-        },
-    }
 }

@@ -6,19 +6,19 @@ ghost use Rattle.term_forms.specs.Translation as terms;
 ghost use Rattle.term_forms.specs.TranslationView.{allowed};
 ghost use Rattle.terms.specs.Worlds.{arity};
 ghost use Rattle.plan_checks.specs.Answers.{Says};
-ghost use Rattle.terms.specs.Measures as measure;
 ghost use Rattle.restrict_tool.specs.Restrictions as spec;
-ghost use Rattle.restrict_tool.specs.view.Requests.{request_seen, IsCounted};
+ghost use Rattle.restrict_tool.specs.view.Requests.{request_seen};
+ghost use Rattle.tool_parts.specs.Counted.{IsCounted};
 
-use crate::formulas::{alone, calls_of, new_body, same_where, stays_restricted};
+use crate::formulas::{new_body, same_where, stays_restricted};
 use hint_prover::conditional;
 use lisp_data::{Form, Memory, Symbol, Value};
-use measures::{MeasureError, obligations};
 use plan_checks::{PlanError, first_order_definition, first_order_term, numbered};
 use plans::{Conditions, Entries, Entry, Plan, Sequents};
 use std::alloc::Global;
 use term_forms::{Scope, translate};
 use terms::{Definition, Link, Term};
+use tool_parts::{alone, calls_of, owed_by};
 use worlds::World;
 
 /// What is asked for.
@@ -111,20 +111,6 @@ fn conditions(
     numbered(alloc, ":RESTRICTION-OF-CALL-", sequents.as_slice())
 }
 
-/// What the new function owes.
-fn owed(alloc: Global, definition: &Definition) -> Result<Sequents, Memory>
-    requires { IsCounted definition.now }
-    ensures { IfOk result (λ ss. ss ≡ measure.obligations definition.now) }
-{
-    match obligations(alloc, definition) {
-        Ok(owed) => Ok(owed),
-        Err(error) => match error {
-            MeasureError::Nested | MeasureError::NoMeasure => unreachable!(),
-            MeasureError::Memory => Err(Memory),
-        },
-    }
-}
-
 /// What is made: the new function, the theorem, and what the theorem says for a chain.
 fn entries(
     alloc: Global,
@@ -165,7 +151,7 @@ fn planned(
     let theorem = same_where(alloc, definition, request.function, restriction)?;
     let mut plan = Plan::new(alloc);
     plan.conditions = conditions(alloc, definition, restriction)?;
-    plan.before = owed(alloc, &new)?;
+    plan.before = owed_by(alloc, &new)?;
     plan.after.push(alone(alloc, theorem))?;
     plan.entries = entries(alloc, request, definition, restriction, new)?;
     Ok(plan)

@@ -8,9 +8,9 @@ ghost use Rattle.terms.specs.Worlds.{Distinct};
 ghost use Rattle.proof_builders.specs.Schemes.{scheme as Scheme};
 ghost use Rattle.restrict_tool.specs.Proofs as spec;
 ghost use Rattle.restrict_tool.specs.Restrictions.{new_body as NewBody, same_where as SameWhere};
-ghost use Rattle.restrict_tool.specs.view.Requests.{IsCounted};
+ghost use Rattle.tool_parts.specs.Counted.{IsCounted};
 
-use crate::formulas::{at_variables, calls_of, followed, new_body, same_at, same_where};
+use crate::formulas::{new_body, same_at, same_where};
 use crate::parts::Parts;
 use hint_prover::{by_body, equation, hyp, if_true, implies_in, implies_out, turned};
 use lisp_data::Memory;
@@ -19,6 +19,7 @@ use proof_builders::{chained, gathered, hypothesis, scheme};
 use proof_objects::Proof;
 use std::alloc::Global;
 use terms::{Sequent, Term, Terms};
+use tool_parts::{at_variables, calls_of, followed};
 
 /// The theorem at each recursive call.
 pub(crate) fn theorem_at_calls(alloc: Global, parts: &Parts<'_>) -> Result<Terms, Memory>

@@ -8,3 +8,4 @@ pub mod Calls
 pub mod Owned
 pub mod Maps
 pub mod FirstOrder
+pub mod Independent

@@ -22,7 +22,7 @@ use Rattle.terms.proofs.Lists.{join_to}
 use Rattle.terms.proofs.LaterSteps.{later_self, later_definition, later_theorem}
 use Rattle.terms.proofs.NamesStay.{NamesApart, names_apart}
 use Rattle.terms.proofs.RecordsStay.{records_stay}
-use Rattle.terms.proofs.LinksStay.{links_stay}
+use Rattle.terms.proofs.LinksStay.{isos_stay, links_stay}
 use Rattle.terms.proofs.Totality.{EachTm, by_terms, each_join, each_to, lacks_fits, lacks_all_fits, over_substitute, over_by_args, stays_total}
 
 -- the obligations of a definition that can be added fit the world
@@ -200,6 +200,7 @@ with_definition W sound basics d ok new owed =
       specifications = each_to (λ s. FitsOver F s.variables s.matrix) (λ s. FitsOver (with_def F d) s.variables s.matrix) (λ s h. over_map (IsIn s.variables) (IsIn s.variables) _ _ (λ x p. p) (arity_later F d ok.fresh) s.matrix h) W.specifications sound.specifications;
       isos = each_to (λ i. AllHold F (iso_conditions i)) (λ i. AllHold (with_def F d) (iso_conditions i)) (λ i h. all_later F sound.formed d ok.fresh (iso_conditions i) h) W.isos sound.isos;
       instances = records_stay W (add_definition d W) (names_apart W sound) sound.formed apart (later_definition W W (later_self W) d) sound.instances;
+      first_order_isos = isos_stay W (add_definition d W) (names_apart W sound) sound.formed apart (later_definition W W (later_self W) d) sound.first_order_isos;
       links = links_stay W (add_definition d W) (names_apart W sound) sound.formed apart (later_definition W W (later_self W) d) sound.links;
     }
   where
@@ -273,5 +274,6 @@ with_theorem W sound n s free new none fit h =
       specifications = sound.specifications;
       isos = sound.isos;
       instances = records_stay W (add_theorem n s W) (names_apart W sound) sound.formed apart (later_theorem W W (later_self W) n s) sound.instances;
+      first_order_isos = isos_stay W (add_theorem n s W) (names_apart W sound) sound.formed apart (later_theorem W W (later_self W) n s) sound.first_order_isos;
       links = links_stay W (add_theorem n s W) (names_apart W sound) sound.formed apart (later_theorem W W (later_self W) n s) sound.links;
     }

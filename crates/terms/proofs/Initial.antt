@@ -181,5 +181,6 @@ initial_sound = record {
   specifications = tt;
   isos = tt;
   instances = tt;
+  first_order_isos = tt;
   links = tt;
 }

@@ -7,8 +7,9 @@ use Rattle.terms.specs.Definitions.{find}
 use Rattle.terms.specs.Worlds.{World, Each, IsIn}
 use Rattle.terms.specs.Formed.{AllFormed}
 use Rattle.terms.specs.Later.{IsLater, Stays}
-use Rattle.terms.specs.Links.{at_variables, IsIndependent, IndependentOver, IsRewriting, RewritesDefined, IsLinked}
+use Rattle.terms.specs.Links.{at_variables, IsIndependent, IsFirstOrder, IndependentOver, IsRewriting, RewritesDefined, IsLinked}
 use Rattle.terms.specs.declared.definition.Definition.{Definition}
+use Rattle.terms.specs.declared.entries.Iso.{Iso}
 use Rattle.terms.specs.declared.entries.Link.{Link}
 use Rattle.terms.specs.declared.entries.Link.TheVariants.{Schema, Solution, Restriction, Isomorphism, TailRecursion}
 use Rattle.terms.proofs.Extend.{over_map}
@@ -19,6 +20,9 @@ use Rattle.terms.proofs.NamesStay.{NamesApart, names_stay}
 module _ (W V : World) (formed : AllFormed W.functions.vars W.functions.defs) (stay : Stays W V) where
   independent_later : (f : Name) (k : ℕ) → IsIndependent W f k → IsIndependent V f k
   independent_later f k a = (stay.arities f k a.0, stay.dependences f k a.0 ∙ a.1)
+
+  first_order_later : (i : Iso) → IsFirstOrder W i → IsFirstOrder V i
+  first_order_later i h = each_to (λ f. IsIndependent W f 1) (λ f. IsIndependent V f 1) (λ f a. independent_later f 1 a) (i.oldp ∷ i.newp ∷ i.forth ∷ i.back ∷ []) h
 
   over_later : (xs : List Name) (t : Tm) → IndependentOver W xs t → IndependentOver V xs t
   over_later xs t o = over_map (IsIn xs) (IsIn xs) (IsIndependent W) (IsIndependent V) (λ y p. p) independent_later t o
@@ -55,3 +59,9 @@ module _ (W V : World) (before : NamesApart W) (formed : AllFormed W.functions.v
 
   pub links_stay : Each (λ e. IsLinked W e.0 e.1) W.links → Each (λ e. IsLinked V e.0 e.1) W.links
   links_stay = each_to (λ e. IsLinked W e.0 e.1) (λ e. IsLinked V e.0 e.1) (λ e h. link_stays e.0 e.1 h) W.links
+
+  pub iso_stays : (i : Iso) → IsFirstOrder W i → IsFirstOrder V i
+  iso_stays = first_order_later W V formed (names_stay W V before apart later formed)
+
+  pub isos_stay : Each (IsFirstOrder W) W.isos → Each (IsFirstOrder V) W.isos
+  isos_stay = each_to (IsFirstOrder W) (IsFirstOrder V) iso_stays W.isos

@@ -17,7 +17,7 @@ use Rattle.terms.specs.Measures.{obligations}
 use Rattle.terms.specs.Formed.{with_var, FitsOver, functions, AllFormed}
 use Rattle.terms.specs.Later.{IsLater}
 use Rattle.terms.specs.Instances.{IsRecorded}
-use Rattle.terms.specs.Links.{IsLinked}
+use Rattle.terms.specs.Links.{IsFirstOrder, IsLinked}
 use Rattle.terms.specs.Sound.{Sound, initial_world, AllHold, iso_conditions, add_variable, add_specification, add_iso, instance_of, add_instance, add_link, add_event}
 use Rattle.terms.proofs.Names.{same_name, name_self, name_apart}
 use Rattle.terms.proofs.Below.{Any}
@@ -27,7 +27,7 @@ use Rattle.terms.proofs.LaterSteps.{later_self, later_variable, later_specificat
 use Rattle.terms.proofs.Lists.{each_join}
 use Rattle.terms.proofs.NamesStay.{NamesApart, names_apart}
 use Rattle.terms.proofs.RecordsStay.{record_stays, records_stay}
-use Rattle.terms.proofs.LinksStay.{link_stays, links_stay}
+use Rattle.terms.proofs.LinksStay.{iso_stays, isos_stay, link_stays, links_stay}
 use Rattle.terms.proofs.Growth.{Inserted, inserted_here, inserted_after, free_primitive, apart_with}
 
 no_function : (p : Option Operation) (q : Option Definition) (r : Option ℕ) → arity_by p q r ≡ None → (p ≡ None) × (q ≡ None) × (r ≡ None)
@@ -141,6 +141,7 @@ with_variable W sound x k fresh new =
       specifications = each_to (λ s. FitsOver F s.variables s.matrix) (λ s. FitsOver (with_var F x k) s.variables s.matrix) (λ s h. over_map (IsIn s.variables) (IsIn s.variables) _ _ (λ y p. p) (arity_later F x k fresh) s.matrix h) W.specifications sound.specifications;
       isos = each_to (λ i. AllHold F (iso_conditions i)) (λ i. AllHold (with_var F x k) (iso_conditions i)) (λ i h. all_later F x k fresh (iso_conditions i) h) W.isos sound.isos;
       instances = records_stay W (add_variable x k W) (names_apart W sound) sound.formed apart (later_variable W W (later_self W) x k) sound.instances;
+      first_order_isos = isos_stay W (add_variable x k W) (names_apart W sound) sound.formed apart (later_variable W W (later_self W) x k) sound.first_order_isos;
       links = links_stay W (add_variable x k W) (names_apart W sound) sound.formed apart (later_variable W W (later_self W) x k) sound.links;
     }
 
@@ -161,6 +162,7 @@ with_specification W sound s free new fits =
       specifications = (fits, sound.specifications);
       isos = sound.isos;
       instances = records_stay W (add_specification s W) (names_apart W sound) sound.formed apart (later_specification W W (later_self W) s) sound.instances;
+      first_order_isos = isos_stay W (add_specification s W) (names_apart W sound) sound.formed apart (later_specification W W (later_self W) s) sound.first_order_isos;
       links = links_stay W (add_specification s W) (names_apart W sound) sound.formed apart (later_specification W W (later_self W) s) sound.links;
     }
 
@@ -176,11 +178,12 @@ with_event W sound e = record {
   specifications = sound.specifications;
   isos = sound.isos;
   instances = records_stay W (add_event e W) (names_apart W sound) sound.formed (record { distinct = sound.distinct; unlike_primitives = sound.unlike_primitives }) (later_event W W (later_self W) e) sound.instances;
+  first_order_isos = isos_stay W (add_event e W) (names_apart W sound) sound.formed (record { distinct = sound.distinct; unlike_primitives = sound.unlike_primitives }) (later_event W W (later_self W) e) sound.first_order_isos;
   links = links_stay W (add_event e W) (names_apart W sound) sound.formed (record { distinct = sound.distinct; unlike_primitives = sound.unlike_primitives }) (later_event W W (later_self W) e) sound.links;
 }
 
-pub with_iso : (W : World) → Sound W → (i : Iso) → primitive i.name ≡ None → (IsIn (names W) i.name → ⊥) → AllHold W.functions (iso_conditions i) → Sound (add_iso i W)
-with_iso W sound i free new hold =
+pub with_iso : (W : World) → Sound W → (i : Iso) → primitive i.name ≡ None → (IsIn (names W) i.name → ⊥) → AllHold W.functions (iso_conditions i) → IsFirstOrder W i → Sound (add_iso i W)
+with_iso W sound i free new hold first =
     let more : Inserted i.name (names W) (names (add_iso i W)) =
     inserted_after i.name (map (λ d. d.name) W.functions.defs) _ _ (inserted_after i.name (map (λ v. v.0) W.functions.vars) _ _ (inserted_after i.name (map (λ t. t.0) W.theorems) _ _ (inserted_after i.name (map (λ s. s.name) W.specifications) _ _ (inserted_here i.name (map (λ i. i.name) W.isos))))) in
     let apart = apart_with W (add_iso i W) sound i.name more free new in
@@ -195,6 +198,7 @@ with_iso W sound i free new hold =
       specifications = sound.specifications;
       isos = (hold, sound.isos);
       instances = records_stay W (add_iso i W) (names_apart W sound) sound.formed apart (later_iso W W (later_self W) i) sound.instances;
+      first_order_isos = (iso_stays W (add_iso i W) (names_apart W sound) sound.formed apart (later_iso W W (later_self W) i) i first, isos_stay W (add_iso i W) (names_apart W sound) sound.formed apart (later_iso W W (later_self W) i) sound.first_order_isos);
       links = links_stay W (add_iso i W) (names_apart W sound) sound.formed apart (later_iso W W (later_self W) i) sound.links;
     }
 
@@ -213,6 +217,7 @@ with_instance W sound of pairs instance recorded =
       specifications = sound.specifications;
       isos = sound.isos;
       instances = each_join (IsRecorded V) W.instances (one ∷ []) (records_stay W V (names_apart W sound) sound.formed apart later sound.instances) (record_stays W V (names_apart W sound) sound.formed apart later one recorded, tt);
+      first_order_isos = isos_stay W V (names_apart W sound) sound.formed apart later sound.first_order_isos;
       links = links_stay W V (names_apart W sound) sound.formed apart later sound.links;
     }
   where
@@ -234,5 +239,6 @@ with_link W sound n l linked = record {
   specifications = sound.specifications;
   isos = sound.isos;
   instances = records_stay W (add_link n l W) (names_apart W sound) sound.formed (record { distinct = sound.distinct; unlike_primitives = sound.unlike_primitives }) (later_link W W (later_self W) n l) sound.instances;
+  first_order_isos = isos_stay W (add_link n l W) (names_apart W sound) sound.formed (record { distinct = sound.distinct; unlike_primitives = sound.unlike_primitives }) (later_link W W (later_self W) n l) sound.first_order_isos;
   links = (link_stays W (add_link n l W) (names_apart W sound) sound.formed (record { distinct = sound.distinct; unlike_primitives = sound.unlike_primitives }) (later_link W W (later_self W) n l) n l linked, links_stay W (add_link n l W) (names_apart W sound) sound.formed (record { distinct = sound.distinct; unlike_primitives = sound.unlike_primitives }) (later_link W W (later_self W) n l) sound.links);
 }

@@ -12,7 +12,7 @@ use Rattle.terms.specs.Formed.{with_def, IsFormed, AllFormed, FitsOver, HasBasic
 use Rattle.terms.specs.Later.{IsLater, Stays}
 use Rattle.terms.specs.Dependence.{dependence}
 use Rattle.terms.specs.Instances.{IsRecorded}
-use Rattle.terms.specs.Links.{IsLinked}
+use Rattle.terms.specs.Links.{IsFirstOrder, IsLinked}
 use Rattle.terms.specs.BuiltIn.{initial_definitions}
 use Rattle.terms.specs.InitialTheorems.{initial_theorems}
 use Rattle.terms.specs.Sound.{Sound, AllHold, iso_conditions, initial_world, add_definition, add_variable, add_theorem, add_specification, add_iso, instance_of, add_instance, add_link, add_event}
@@ -47,7 +47,7 @@ StaysTotalFlat =
     (W : Functions) → AllFormed W.vars W.defs → Total W → (d : Definition) → IsFormed W d → mentions d.name d.body ≡ false → Total (with_def W d)
 
 -- The world that each book begins with is sound. A sound world stays so with a definition whose obligations hold, with a function variable,
--- with a theorem that holds, with a specification whose matrix has no variables but its own and with an isomorphism whose conditions hold,
+-- with a theorem that holds, with a specification whose matrix has no variables but its own and with an isomorphism whose conditions hold and whose functions depend on no function variable,
 -- each under a new name; with an instance that is the one that its pairs give; with a link whose theorem says what the link does; and with
 -- an event.
 pub record WorldsGrow : Type 0 where
@@ -56,7 +56,7 @@ pub record WorldsGrow : Type 0 where
   pub variable : (W : World) → Sound W → (x : Name) (k : ℕ) → arity W.functions x ≡ None → (IsIn (names W) x → ⊥) → Sound (add_variable x k W)
   pub theorem : (W : World) → Sound W → (n : Name) (s : Sequent) → primitive n ≡ None → (IsIn (names W) n → ⊥) → s.hyps ≡ [] → FitsSequent W.functions s → Holds W.functions s → Sound (add_theorem n s W)
   pub specification : (W : World) → Sound W → (s : Specification) → primitive s.name ≡ None → (IsIn (names W) s.name → ⊥) → FitsOver W.functions s.variables s.matrix → Sound (add_specification s W)
-  pub iso : (W : World) → Sound W → (i : Iso) → primitive i.name ≡ None → (IsIn (names W) i.name → ⊥) → AllHold W.functions (iso_conditions i) → Sound (add_iso i W)
+  pub iso : (W : World) → Sound W → (i : Iso) → primitive i.name ≡ None → (IsIn (names W) i.name → ⊥) → AllHold W.functions (iso_conditions i) → IsFirstOrder W i → Sound (add_iso i W)
   pub instance : (W : World) → Sound W → (of : Name) (pairs : List FunPair) (instance : Name) → IsRecorded W (instance_of of pairs instance) → Sound (add_instance of pairs instance W)
   pub link : (W : World) → Sound W → (n : Name) (l : Link) → IsLinked W n l → Sound (add_link n l W)
   pub event : (W : World) → Sound W → (e : Datum) → Sound (add_event e W)

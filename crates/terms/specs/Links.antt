@@ -7,9 +7,10 @@ use Rattle.terms.specs.Definitions.{find}
 use Rattle.terms.specs.Dependence.{function_dependence}
 use Rattle.terms.specs.Measures.{call1, call2}
 use Rattle.terms.specs.BuiltIn.{yes, no, if_else}
-use Rattle.terms.specs.Worlds.{World, IsIn, Distinct, arity}
+use Rattle.terms.specs.Worlds.{World, Each, IsIn, Distinct, arity}
 use Rattle.terms.specs.declared.definition.Definition.{Definition}
 use Rattle.terms.specs.declared.sequent.Sequent.{Sequent}
+use Rattle.terms.specs.declared.entries.Iso.{Iso}
 use Rattle.terms.specs.declared.entries.IsoUse.{IsoUse}
 use Rattle.terms.specs.declared.entries.Link.{Link}
 use Rattle.terms.specs.declared.entries.Link.TheVariants.{Schema, Solution, Restriction, Isomorphism, TailRecursion}
@@ -63,6 +64,10 @@ alone goal = record { universals = []; hyps = []; goal = goal }
 -- a function of so many arguments, that depends on no function variable
 abbrev pub IsIndependent : World → Name → ℕ → Type 0
 IsIndependent W f k = (arity W.functions f ≡ Some k) × (function_dependence W f ≡ [])
+
+-- the functions of an isomorphism take one argument, and depend on no function variable
+abbrev pub IsFirstOrder : World → Iso → Type 0
+IsFirstOrder W i = Each (λ f. IsIndependent W f 1) (i.oldp ∷ i.newp ∷ i.forth ∷ i.back ∷ [])
 
 -- the term has no variables but these, and its calls are of such functions
 abbrev pub IndependentOver : World → List Name → Tm → Type 0

@@ -11,7 +11,7 @@ use Rattle.terms.specs.InitialTheorems.{initial_theorems}
 use Rattle.terms.specs.Formed.{with_def, with_var, AllFormed, FitsOver}
 use Rattle.terms.specs.Later.{IsLater}
 use Rattle.terms.specs.Instances.{IsRecorded}
-use Rattle.terms.specs.Links.{IsLinked}
+use Rattle.terms.specs.Links.{IsFirstOrder, IsLinked}
 use Rattle.terms.specs.declared.definition.Definition.{Definition}
 use Rattle.terms.specs.declared.sequent.Sequent.{Sequent}
 use Rattle.terms.specs.declared.entries.Specification.{Specification}
@@ -59,11 +59,12 @@ pub record Sound (W : World) : Type 0 where
   pub total : Total W.functions
   -- what each book begins with is there: rules, obligations and the words of the syntax speak with its functions
   pub later : IsLater initial_world W
-  -- what measures owe, theorems and the conditions of isomorphisms hold
+  -- what measures owe, theorems and the conditions of isomorphisms hold; the functions of these depend on no function variable
   pub obligations : Each (λ d. AllHold W.functions (obligations d)) W.functions.defs
   pub theorems : Each (λ t. (t.1.hyps ≡ []) × FitsSequent W.functions t.1 × Holds W.functions t.1) W.theorems
   pub specifications : Each (λ s. FitsOver W.functions s.variables s.matrix) W.specifications
   pub isos : Each (λ i. AllHold W.functions (iso_conditions i)) W.isos
+  pub first_order_isos : Each (IsFirstOrder W) W.isos
   -- each recorded instance is the one that its pairs give
   pub instances : Each (IsRecorded W) W.instances
   -- each link's theorem says what the link does

@@ -6,16 +6,18 @@ use Rattle.event_forms.specs.Instances as instance
 use Rattle.event_forms.specs.SecondOrder as order
 use Rattle.event_forms.specs.Shapes as spec
 use Rattle.event_forms.specs.Isomorphisms as iso
+use Rattle.event_forms.specs.Representations as representation
 use Rattle.event_forms.specs.Transformations as transformation
 use Rattle.event_forms.specs.declared.instances.InstanceParts.{InstanceParts}
 use Rattle.event_forms.specs.declared.isomorphisms.IsoParts.{IsoParts}
 use Rattle.event_forms.specs.declared.second_order.SpecificationParts.{SpecificationParts}
 use Rattle.event_forms.specs.declared.second_order.VariableParts.{VariableParts}
+use Rattle.event_forms.specs.declared.representations.IsodataParts.{IsodataParts}
 use Rattle.event_forms.specs.declared.transformations.RestrictParts.{RestrictParts}
 use Rattle.event_forms.specs.declared.shapes.Event.{Event}
 use Rattle.event_forms.specs.declared.shapes.FunctionParts.{FunctionParts}
 use Rattle.event_forms.specs.declared.shapes.TheoremParts.{TheoremParts}
-use Rattle.event_forms.specs.declared.shapes.Event.TheVariants.{InPackage, IncludeBook, Defun, Defthm, Defiso, Restrict, Defun2, Defunvar, DefunSk2, DefunInst, DefthmInst, ValueTriple}
+use Rattle.event_forms.specs.declared.shapes.Event.TheVariants.{InPackage, IncludeBook, Defun, Defthm, Defiso, Restrict, Isodata, Defun2, Defunvar, DefunSk2, DefunInst, DefthmInst, ValueTriple}
 
 -- what f gives of a part that may be left out
 abbrev pub if_given : {A B : Type 0} → Option A → (A → B) → Option B
@@ -62,6 +64,17 @@ restrict_seen r = record {
   hows = hints_in (map form_of r.hows.now);
 }
 
+abbrev pub isodata_seen : IsodataParts → representation.IsodataParts
+isodata_seen i = record {
+  old = i.old.now;
+  maps = map form_of i.maps.now;
+  function = i.function.now;
+  new_to_old = i.new_to_old.now;
+  old_to_new = i.old_to_new.now;
+  proofs = clauses_in (map form_of i.proofs.now);
+  hows = hints_in (map form_of i.hows.now);
+}
+
 abbrev pub variable_seen : VariableParts → order.VariableParts
 variable_seen v = record { name = v.name.now; arity = v.arity }
 
@@ -82,6 +95,7 @@ seen (Defun function) = spec.Defun (function_seen function)
 seen (Defthm theorem) = spec.Defthm (theorem_seen theorem)
 seen (Defiso iso) = spec.Defiso (iso_seen iso)
 seen (Restrict restriction) = spec.Restrict (restrict_seen restriction)
+seen (Isodata representation) = spec.Isodata (isodata_seen representation)
 seen (Defun2 function) = spec.Defun2 (function_seen function)
 seen (Defunvar variable) = spec.Defunvar (variable_seen variable)
 seen (DefunSk2 specification) = spec.DefunSk2 (specification_seen specification)
@@ -113,6 +127,11 @@ pub record IsProperRestriction (r : RestrictParts) : Type 0 where
   pub proofs : AllProper r.proofs.now
   pub hows : AllProper r.hows.now
 
+pub record IsProperIsodata (i : IsodataParts) : Type 0 where
+  pub maps : AllProper i.maps.now
+  pub proofs : AllProper i.proofs.now
+  pub hows : AllProper i.hows.now
+
 pub record IsProperSpecification (s : SpecificationParts) : Type 0 where
   pub variables : AllProper s.variables.now
   pub matrix : IsProper s.matrix.now
@@ -127,6 +146,7 @@ HasProperParts (Defun function) = IsProperFunction function
 HasProperParts (Defthm theorem) = IsProperTheorem theorem
 HasProperParts (Defiso iso) = IsProperIso iso
 HasProperParts (Restrict restriction) = IsProperRestriction restriction
+HasProperParts (Isodata representation) = IsProperIsodata representation
 HasProperParts (Defun2 function) = IsProperFunction function
 HasProperParts (Defunvar variable) = Unit {0}
 HasProperParts (DefunSk2 specification) = IsProperSpecification specification

@@ -1,11 +1,14 @@
-use Rattle.std.proofs.Common.{◌≡◌, ◌≢◌, ℕ, List, [], ◌∷◌, codes, Some, refl, ap, ◌∙◌}
+use Rattle.std.proofs.Common.{◌≡◌, ◌≢◌, ℕ, List, [], ◌∷◌, codes, Some, refl, sym, ap, ◌∙◌, subst}
 use Rattle.std.proofs.Math.IntN.{neg_ℤ, neg_ℤ-neg_ℤ}
 use Rattle.lisp_data.specs.Values.{Name, Val, Int, Sym, Pair, nil, same_val}
 use Rattle.terms.specs.Primitives.{primitive, primitives, truth, is_int, number}
 use Rattle.terms.specs.Terms.{Var}
 use Rattle.terms.specs.Measures.{call1, call2}
-use Rattle.terms.specs.Worlds.{Functions, FitsSequent, Holds}
-use Rattle.terms.specs.Sound.{AllHold, iso_conditions, over_x}
+use Rattle.terms.specs.BuiltIn.{initial_definitions, list_definitions, number_definitions, truth_definitions}
+use Rattle.terms.specs.Dependence.{dependence}
+use Rattle.terms.specs.Links.{IsIndependent}
+use Rattle.terms.specs.Worlds.{Functions, World, arity, FitsSequent, Holds}
+use Rattle.terms.specs.Sound.{AllHold, initial_world, iso_conditions, over_x}
 use Rattle.terms.specs.declared.entries.Iso.{Iso}
 use Rattle.terms.proofs.Basics.{t_not_nil}
 use Rattle.terms.proofs.Meaning.{value_self}
@@ -47,8 +50,23 @@ all W name = ((fits_one W, one W), ((fits_one W, one W), ((fits_two W, two W), (
 by_names : (W : Functions) (i : Iso) → i.oldp ≡ int → i.newp ≡ int → i.forth ≡ minus → i.back ≡ minus → AllHold W (iso_conditions i)
 by_names W i e f g h = rw e (rw f (rw g (rw h (all W i.name))))
 
-pub returns : goal.returns
-returns c =
+-- these functions are built in
+int_alone : (arity initial_world.functions int ≡ Some 1) × (dependence initial_world.functions.vars initial_world.functions.defs int ≡ [])
+unfolding primitive primitives initial_definitions list_definitions number_definitions truth_definitions
+int_alone = (refl, refl)
+
+minus_alone : (arity initial_world.functions minus ≡ Some 1) × (dependence initial_world.functions.vars initial_world.functions.defs minus ≡ [])
+unfolding primitive primitives initial_definitions list_definitions number_definitions truth_definitions
+minus_alone = (refl, refl)
+
+as_at_first : (W : World) → W.functions ≡ initial_world.functions → (f g : Name) → f ≡ g →
+    (arity initial_world.functions g ≡ Some 1) × (dependence initial_world.functions.vars initial_world.functions.defs g ≡ []) → IsIndependent W f 1
+as_at_first W e f g q h =
+    subst (λ (F : Functions). (arity F f ≡ Some 1) × (dependence F.vars F.defs f ≡ [])) (sym e)
+    (subst (λ n. (arity initial_world.functions n ≡ Some 1) × (dependence initial_world.functions.vars initial_world.functions.defs n ≡ [])) (sym q) h)
+
+pub returns-clause-hold : goal.returns-clause-hold
+returns-clause-hold c =
     let i : Iso = record {
       name = c.in_ok-name.name;
       oldp = c.in_ok-oldp.oldp;
@@ -58,3 +76,18 @@ returns c =
     } in
     λ W. by_names W i (c.in_ok-oldp.ensures ∙ c.in_ok-integerp.ensures.upper) c.in_ok-integerp.ensures.upper
     (c.in_ok-forth.ensures ∙ c.in_ok-negative.ensures.upper) c.in_ok-negative.ensures.upper
+
+pub returns-clause-first_order : goal.returns-clause-first_order
+returns-clause-first_order c =
+    let oldp = c.in_ok-oldp.ensures ∙ c.in_ok-integerp.ensures.upper in
+    let forth = c.in_ok-forth.ensures ∙ c.in_ok-negative.ensures.upper in
+    λ W e. (
+      as_at_first W e c.in_ok-oldp.oldp int oldp int_alone,
+      (
+        as_at_first W e c.in_ok-integerp.integerp int c.in_ok-integerp.ensures.upper int_alone,
+        (
+          as_at_first W e c.in_ok-forth.forth minus forth minus_alone,
+          (as_at_first W e c.in_ok-negative.negative minus c.in_ok-negative.ensures.upper minus_alone, tt),
+        ),
+      ),
+    )

@@ -6,7 +6,7 @@ use Rattle.plans.specs.Proving.{ProvesAll}
 use Rattle.restrict_tool.specs.Proofs.{agreement}
 use Rattle.restrict_tool.specs.Restrictions.{stays_restricted}
 use Rattle.restrict_tool.proofs.Agreeing.{agrees-at, met-at}
-use Rattle.restrict_tool.proofs.Proving.{proofs-length, length-mapped, mapped-at, proved-next, proved-end}
+use Rattle.tool_parts.proofs.Proving.{proofs-length, length-mapped, mapped-at, proved-next, proved-end}
 use Rattle.restrict_tool.proofs.finishing.agreements.Goals as goal
 
 pub bounds-proved-i : goal.bounds-proved-i

@@ -1,7 +1,7 @@
 use Rattle.std.proofs.Common.{map}
 use Rattle.measures.specs.Calls.{call_of}
 use Rattle.restrict_tool.specs.Proofs.{agreement}
-use Rattle.restrict_tool.proofs.Proving.{ProvedTo}
+use Rattle.tool_parts.proofs.Proving.{ProvedTo}
 use Rattle.restrict_tool.proofs.finishing.agreements.Given as goal
 
 abbrev pub invariant-loop-i : goal.invariant-loop-i

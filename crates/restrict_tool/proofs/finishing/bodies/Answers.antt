@@ -3,7 +3,7 @@ use Rattle.lisp_data.specs.ValueView.{val_of}
 use Rattle.terms.specs.Worlds.{Fits}
 use Rattle.restrict_tool.specs.Proofs.{agreements}
 use Rattle.restrict_tool.proofs.Agreeing.{old_body_fits, new_body_fits, new_alike, differences-proved}
-use Rattle.restrict_tool.proofs.Proving.{proofs-in}
+use Rattle.tool_parts.proofs.Proving.{proofs-in}
 use Rattle.restrict_tool.proofs.finishing.bodies.Goals as goal
 
 pub body_congruence-requires-clause-old : goal.body_congruence-requires-clause-old

@@ -1,4 +1,4 @@
-use Rattle.restrict_tool.proofs.Proving.{ProvedTo}
+use Rattle.tool_parts.proofs.Proving.{ProvedTo}
 use Rattle.restrict_tool.proofs.finishing.owing.Given as goal
 
 abbrev pub invariant-loop-i : goal.invariant-loop-i
